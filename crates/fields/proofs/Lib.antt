@@ -1,0 +1,4 @@
+pub mod Values
+pub mod Blocks
+pub mod Masks
+pub mod EachOnce

@@ -1,0 +1,16 @@
+-- Pairs of labels: what a node combines.
+use mathlib.Core.Bool.{Bool, _&&_}
+use mathlib.Core.List.{List, [], _∷_}
+use Prim.Native.Nat.{ℕ}
+use lib.Dec.{eqb}
+use Rattle.stores.specs.declared.pairs.Pair.{Pair}
+
+abbrev pub pair : ℕ → ℕ → Pair
+pair a b = record { left = a; right = b }
+
+abbrev pub same-pair : Pair → Pair → Bool
+same-pair p q = eqb (p .left) (q .left) && eqb (p .right) (q .right)
+
+-- a pair names its two labels, left before right
+abbrev pub pair-labels : Pair → List ℕ
+pair-labels p = p .left ∷ p .right ∷ []
