@@ -41,7 +41,8 @@ xor-cancel : (a b : ℕ) → bitXor a b ≡ a → b ≡ 0
 xor-cancel a b e =
     sym (xor-zero-l b) ∙ ap (λ (x : ℕ). bitXor x b) (sym (xor-self a)) ∙ xor-assoc a a b ∙ ap (bitXor a) e ∙ xor-self a
 
-same-if-xor-zero : (a b : ℕ) → bitXor a b ≡ 0 → b ≡ a
+-- numbers that differ in no bit are the same
+pub same-if-xor-zero : (a b : ℕ) → bitXor a b ≡ 0 → b ≡ a
 same-if-xor-zero a b e =
     sym (xor-zero-l b) ∙ ap (λ (x : ℕ). bitXor x b) (sym (xor-self a)) ∙ xor-assoc a a b ∙ ap (bitXor a) e ∙ xor-zero-r a
 

@@ -3,7 +3,7 @@ ghost use mathlib.Core.Path.{_≡_};
 ghost use Rattle.fields.specs.Faults.{number, detail};
 
 // One case for each refusal, in the order of its number, with what its detail is made of.
-#[derive(Clone, Copy, PartialEq, Eq, Debug)]
+#[derive(Clone, Copy)]
 pub enum Fault {
     // a console line of no form
     Line,

@@ -7,7 +7,7 @@ use crate::faults::Fault;
 use crate::keys::Key;
 use crate::kinds::Kind;
 
-#[derive(Clone, Copy, PartialEq, Eq, Debug)]
+#[derive(Clone, Copy)]
 pub struct RangeRow {
     pub low: u16,
     pub high: u16,

@@ -2,7 +2,7 @@
 ghost use Rattle.stores.specs.Pairs.{«same-pair», «pair-labels»};
 use fields::keys::Key;
 
-#[derive(Clone, Copy, PartialEq, Eq, Debug)]
+#[derive(Clone, Copy)]
 pub struct Pair {
     pub left: u8,
     pub right: u8,

@@ -1,0 +1,15 @@
+// What a line asks: whether a value takes a number, or whether six numbers form a network order.
+use fields::flags::FlagRow;
+use fields::orders::FIELDS;
+use fields::prefixes::PrefixRow;
+use fields::protocols::ProtocolRow;
+use fields::ranges::RangeRow;
+
+#[derive(Clone, Copy)]
+pub enum Question {
+    OfPrefix(PrefixRow, u32),
+    OfRange(RangeRow, u16),
+    OfProtocol(ProtocolRow, u8),
+    OfFlags(FlagRow, u8),
+    OfOrder([u8; FIELDS]),
+}

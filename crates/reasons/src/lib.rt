@@ -1,0 +1,2 @@
+pub mod sides;
+pub mod why;

@@ -1,0 +1,4 @@
+pub mod DecimalWords
+pub mod HexWords
+pub mod Joins
+pub mod RowWords

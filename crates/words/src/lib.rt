@@ -1,0 +1,4 @@
+pub mod cuts;
+pub mod decimals;
+pub mod hexadecimals;
+pub mod values;
