@@ -5,6 +5,7 @@ ghost use mathlib.Core.List.{[]};
 ghost use Prim.Native.Nat.{_≤_};
 ghost use lib.ListN.{length};
 ghost use Rattle.std.specs.Results.{isOk};
+ghost use Rattle.std.specs.Vec.{made};
 ghost use Rattle.std.specs.Options.{Cases as BySome};
 ghost use Rattle.fields.specs.Faults.{answer, «answer-by»};
 ghost use Rattle.fields.specs.Orders.{«field-count», has, «Each-once», «order-fault», «field-at», «first-wrong», «is-field»};
@@ -25,6 +26,7 @@ impl NetworkOrder {
     // The order with exactly these fields. An order that names each field once is formed, and no other.
     pub fn form(fields: [u8; FIELDS]) -> Result<NetworkOrder, Fault>
         ensures formed { λ r. ⌜ answer-by (λ o. o .fields) r ≡ answer (order-fault fields) fields ⌝ }
+        ensures names { λ r. ⌜ made r (λ o. Each-once field-count (o .fields)) ⌝ }
         ensures once { λ r. ⌜ (Each-once field-count fields → isOk r ≡ true) ⌝ }
     {
         if let Some(position) = first_wrong(&fields) {

@@ -16,6 +16,7 @@ returns-in-Some c =
     let size : length (c .args .fields) ≡ field-count = search needs in
     record {
       formed = ap (λ w. answer (wrong-position w) (c .args .fields)) e;
+      names = tt;
       once = λ h. let r = right-from-once field-count (c .args .fields) size h in absurd (let z : _≡_ {A = ℕ} 0 1 = cc in omega arith);
     }
 
