@@ -1,1 +1,5 @@
 pub mod engine;
+pub mod rows;
+pub mod scan;
+mod searches;
+mod used;
