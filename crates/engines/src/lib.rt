@@ -1,4 +1,6 @@
+pub mod direct;
 pub mod engine;
+mod pairs;
 pub mod rows;
 pub mod scan;
 mod searches;
