@@ -1,6 +1,7 @@
 // A kind of value that a field of a filter can have.
 ghost use mathlib.Core.Path.{_≡_};
 ghost use mathlib.Core.Bool.{Bool};
+ghost use mathlib.Core.List.{[]};
 ghost use Prim.Native.Nat.{ℕ, _<_, _^_};
 ghost use Rattle.std.specs.declared.option.Option.{Option};
 ghost use Rattle.std.specs.declared.result.Result.the-variants.{Ok};
@@ -26,6 +27,9 @@ pub trait Kind: Key {
 
     // values that the same numbers satisfy are the same value
     law unique: { (a b : Self) → ((n : ℕ) → n < 2 ^ width → satisfied a n ≡ satisfied b n) → a ≡ b };
+
+    // a field's value names no label
+    law unlabelled: { (a : Self) → Self·Key .labels a ≡ [] };
 
     // The value with exactly this row; forming a value's row gives the value.
     fn form(row: Self::Row) -> Result<Self, Fault>
