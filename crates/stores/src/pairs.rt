@@ -1,11 +1,22 @@
 // A combination: the label that a node has on its left and the label that it has on its right.
-ghost use Rattle.stores.specs.Pairs.{«same-pair», «pair-labels»};
+ghost use mathlib.Core.Path.{_≡_};
+ghost use Rattle.stores.specs.Pairs.{«same-pair», «pair-labels», code};
 use fields::keys::Key;
+use parts::marks::PLACES;
 
 #[derive(Clone, Copy)]
 pub struct Pair {
     pub left: u8,
     pub right: u8,
+}
+
+impl Pair {
+    // The pair as one number.
+    pub fn code(self) -> usize
+        ensures { λ r. ⌜ r ≡ code self ⌝ }
+    {
+        PLACES * self.left as usize + self.right as usize
+    }
 }
 
 pub impl Key for Pair as PairKey {

@@ -1,11 +1,5 @@
-use mathlib.Core.Path.{_≡_, ap}
-use Prim.Native.Nat.{ℕ}
-use Rattle.std.proofs.shelf.Ways.{decides-and, decides-eqb, decides-like}
-use Rattle.stores.specs.declared.pairs.Pair.{Pair}
+use Rattle.stores.proofs.Alike.{pair-decides}
 use Rattle.stores.proofs.pairs.PairKey.the-impl.Needs as need
 
 pub decides-law : need.decides-law
-decides-law a b =
-    decides-like _ (λ h i. record { left = h .0 i; right = h .1 i })
-    (λ e. (ap (λ (p : Pair). p .left) e, ap (λ (p : Pair). p .right) e))
-    (decides-and _ _ (decides-eqb (a .left) (b .left)) (decides-eqb (a .right) (b .right)))
+decides-law a b = pair-decides a b

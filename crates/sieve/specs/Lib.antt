@@ -1,0 +1,3 @@
+pub mod Touched
+pub mod Counted
+pub mod Sieved
