@@ -12,6 +12,7 @@ pub mod checks;
 pub mod edits;
 pub mod scans;
 
+#[derive(Drop)]
 pub struct FilterTable {
     rows: [FilterRow; CAPACITY],
     count: usize,
