@@ -1,0 +1,10 @@
+pub mod Ranks
+pub mod Sameness
+pub mod Edits
+pub mod Ordering
+pub mod Past
+pub mod Scanning
+pub mod Equal
+pub mod Balance
+pub mod Bounds
+pub mod Known

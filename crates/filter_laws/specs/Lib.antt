@@ -1,0 +1,4 @@
+pub mod Histories
+pub mod Relations
+pub mod Runs
+pub mod Figures

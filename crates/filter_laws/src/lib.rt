@@ -1,0 +1,2 @@
+pub mod replays;
+pub mod sample;
