@@ -1,0 +1,4 @@
+mod edit;
+mod nodes;
+pub mod tries;
+mod walk;
