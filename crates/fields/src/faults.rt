@@ -1,6 +1,7 @@
 // The refusals of the classifier and everything below it.
 ghost use mathlib.Core.Path.{_≡_};
 ghost use Rattle.fields.specs.Faults.{number, detail};
+use std::fmt;
 
 // One case for each refusal, in the order of its number, with what its detail is made of.
 #[derive(Clone, Copy)]
@@ -88,5 +89,23 @@ impl Fault {
             Fault::Range(d) | Fault::Stands(d) | Fault::Unknown(d) | Fault::Twin(d) => d as u32,
             Fault::Crowded => 96,
         }
+    }
+}
+
+// Two refusals are equal if they have one number and one detail.
+pub impl PartialEq<Fault> for Fault as FaultPartialEq {
+    fn eq(&self, other: &Fault) -> bool {
+        self.number() == other.number() && self.detail() == other.detail()
+    }
+}
+
+pub impl Eq for Fault as FaultEq {}
+
+// Shown by its numbers.
+pub impl fmt::Debug for Fault as FaultDebug {
+    fn fmt<W: fmt::Write>(&self, f: &mut fmt::Formatter<W>) -> fmt::Result {
+        let number = self.number();
+        let detail = self.detail();
+        write!(f, "refused with {number}, detail {detail}")
     }
 }

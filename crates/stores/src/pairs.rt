@@ -4,7 +4,7 @@ ghost use Rattle.stores.specs.Pairs.{«same-pair», «pair-labels», code};
 use fields::keys::Key;
 use parts::marks::PLACES;
 
-#[derive(Clone, Copy)]
+#[derive(Clone, Copy, PartialEq, Eq, Debug)]
 pub struct Pair {
     pub left: u8,
     pub right: u8,
