@@ -26,6 +26,7 @@ use parts::told::Told;
 use std::marker::PhantomData;
 
 // Which places are full is the engine's own record, whatever rows the table has at first.
+#[derive(Drop)]
 pub struct Scan<R: Copy, T: Rows<R>> {
     table: T,
     row: PhantomData<R>,
