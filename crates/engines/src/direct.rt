@@ -22,6 +22,7 @@ use parts::told::Told;
 const NUMBERS: usize = 256;
 
 // The values at their places, and the label of each: of any, and of each number.
+#[derive(Drop)]
 pub struct Direct {
     held: [Option<Protocol>; PLACES],
     any: Option<u8>,

@@ -23,9 +23,20 @@ pub trait Rows<R: Copy> {
 }
 
 // A slice of at least 96 rows.
+#[derive(Drop)]
 pub struct RowTable<'a, R: Copy> {
     rows: &'a mut [R],
     ghost wide: { 96 ≤ length (now rows) },
+}
+
+// Whether rows are enough for a table.
+pub fn check_rows<R: Copy>(rows: &[R]) -> Result<(), Fault>
+    ensures { λ r. ⌜ r ≡ answer (list-fault (length (now (rows .entry)))) tt ⌝ }
+{
+    if rows.len() < PLACES {
+        return Err(Fault::Short(rows.len() as u8));
+    }
+    Ok(())
 }
 
 impl<'a, R: Copy> RowTable<'a, R> {
@@ -33,10 +44,18 @@ impl<'a, R: Copy> RowTable<'a, R> {
     pub fn form(rows: &'a mut [R]) -> Result<RowTable<'a, R>, Fault>
         ensures { λ r. ⌜ answer-by (λ t. now (t .rows)) r ≡ answer (list-fault (length (now (rows .entry)))) (now (rows .entry)) ⌝ }
     {
-        if rows.len() < PLACES {
-            return Err(Fault::Short(rows.len() as u8));
+        if let Err(fault) = check_rows(rows) {
+            return Err(fault);
         }
         Ok(RowTable { rows })
+    }
+
+    // The same for rows that were checked, where a table cannot be taken out of a Result.
+    pub fn checked(rows: &'a mut [R]) -> RowTable<'a, R>
+        requires { ⌜ 96 ≤ length (now rows) ⌝ }
+        ensures { λ r. ⌜ now (r .rows) ≡ now (rows .entry) ⌝ }
+    {
+        RowTable { rows }
     }
 }
 

@@ -1,9 +1,17 @@
 // The scan engine: one text for every kind of value, over a table of rows that its owner supplies.
 ghost use mathlib.Core.Path.{_≡_};
-ghost use mathlib.Core.Bool.{false};
-ghost use Prim.Native.Nat.{_%_, _^_};
+ghost use mathlib.Core.Bool.{true, false};
+ghost use mathlib.Core.List.{List, [], _∷_, _++_};
+ghost use Prim.Native.Nat.{ℕ, _%_, _^_, _<_, _≤_};
 ghost use lib.ListN.{length, replicate};
-ghost use Rattle.engines.specs.Tables.{Scanned};
+ghost use Rattle.std.specs.declared.result.Result.the-variants.{Err};
+ghost use Rattle.std.specs.Results.{isErr};
+ghost use Rattle.std.specs.Vec.{made};
+ghost use Rattle.fields.specs.declared.faults.Fault.the-variants.{Short};
+ghost use Rattle.fields.specs.Faults.{answer, unless};
+ghost use Rattle.parts.specs.Meaning.{Meaning, nothing, «set-fault», «after-set», cleared, «after-clear», «asked-once», «list-fault»};
+ghost use Rattle.parts.specs.Marks.{«labels-of», «over-start»};
+ghost use Rattle.engines.specs.Scans.{Shows, «Rest-kept»};
 use crate::engine::Engine;
 use crate::rows::Rows;
 use crate::searches::held;
@@ -18,6 +26,7 @@ use parts::told::Told;
 use std::marker::PhantomData;
 
 // Which places are full is the engine's own record, whatever rows the table has at first.
+#[derive(Drop)]
 pub struct Scan<R: Copy, T: Rows<R>> {
     table: T,
     row: PhantomData<R>,
@@ -50,18 +59,28 @@ impl<R: Copy, T: Rows<R>> Scan<R, T> {
 pub impl<R: Copy, T: Rows<R>, V: Kind<Row = R>> Told<V> for Scan<R, T> as ScanTold {
     type Asked = u32;
 
-    ghost shows = { λ s m. Scanned (V·Kind .plain) (T·Rows .items (s .table)) (s .used .full) (s .used .top) (s .asked) m };
+    ghost shows = { Shows (V·Kind .plain) (T·Rows .items) };
 
     ghost agrees = { λ s l. s .asked ≡ length l % 2 ^ 32 };
 
-    fn empty(&mut self) {
+    fn empty(&mut self)
+        ensures held { λ _. ⌜ Shows (V·Kind .plain) (T·Rows .items) (now (self .exit)) nothing ⌝ }
+        ensures asked { λ _. ⌜ now (self .exit) .asked ≡ 0 ⌝ }
+        ensures rest { λ _. ⌜ Rest-kept (T·Rows .items) (now (self .entry)) (now (self .exit)) ⌝ }
+    {
         // a table's own contract tells that it is wide enough
         let _ = self.table.rows();
         self.used = Used::none();
         self.asked = 0;
     }
 
-    fn set(&mut self, place: u8, value: V) -> Result<(), Fault> {
+    fn set(&mut self, place: u8, value: V) -> Result<(), Fault>
+        ensures result { λ r. ⌜ ((m : Meaning V) → Shows (V·Kind .plain) (T·Rows .items) (now (self .entry)) m → r ≡ answer (set-fault (V·Key .eq) (V·Key .labels) (m .places) place value) tt) ⌝ }
+        ensures held { λ r. ⌜ ((m : Meaning V) → Shows (V·Kind .plain) (T·Rows .items) (now (self .entry)) m → Shows (V·Kind .plain) (T·Rows .items) (now (self .exit)) (after-set (V·Key .eq) (V·Key .labels) m place value)) ⌝ }
+        ensures kept { λ r. ⌜ (isErr r ≡ true → now (self .exit) ≡ now (self .entry)) ⌝ }
+        ensures asked { λ r. ⌜ ((l : List ℕ) → now (self .entry) .asked ≡ length l % 2 ^ 32 → now (self .exit) .asked ≡ length l % 2 ^ 32) ⌝ }
+        ensures rest { λ _. ⌜ Rest-kept (T·Rows .items) (now (self .entry)) (now (self .exit)) ⌝ }
+    {
         let at = place as usize;
         if at >= PLACES {
             return Err(Fault::Label(place));
@@ -79,7 +98,13 @@ pub impl<R: Copy, T: Rows<R>, V: Kind<Row = R>> Told<V> for Scan<R, T> as ScanTo
         Ok(())
     }
 
-    fn clear(&mut self, place: u8) -> Result<V, Fault> {
+    fn clear(&mut self, place: u8) -> Result<V, Fault>
+        ensures result { λ r. ⌜ ((m : Meaning V) → Shows (V·Kind .plain) (T·Rows .items) (now (self .entry)) m → r ≡ cleared (m .places) place) ⌝ }
+        ensures held { λ r. ⌜ ((m : Meaning V) → Shows (V·Kind .plain) (T·Rows .items) (now (self .entry)) m → Shows (V·Kind .plain) (T·Rows .items) (now (self .exit)) (after-clear m place)) ⌝ }
+        ensures kept { λ r. ⌜ (isErr r ≡ true → now (self .exit) ≡ now (self .entry)) ⌝ }
+        ensures asked { λ r. ⌜ ((l : List ℕ) → now (self .entry) .asked ≡ length l % 2 ^ 32 → now (self .exit) .asked ≡ length l % 2 ^ 32) ⌝ }
+        ensures rest { λ _. ⌜ Rest-kept (T·Rows .items) (now (self .entry)) (now (self .exit)) ⌝ }
+    {
         let at = place as usize;
         if at >= PLACES {
             return Err(Fault::Label(place));
@@ -95,7 +120,16 @@ pub impl<R: Copy, T: Rows<R>, V: Kind<Row = R>> Told<V> for Scan<R, T> as ScanTo
 }
 
 pub impl<R: Copy, T: Rows<R>, V: Kind<Row = R>> Engine<V> for Scan<R, T> as ScanEngine {
-    fn matches(&mut self, number: u32, list: &mut [u8]) -> Result<usize, Fault> {
+    fn matches(&mut self, number: u32, list: &mut [u8]) -> Result<usize, Fault>
+        ensures result { λ r. ⌜ ((m : Meaning V) → Shows (V·Kind .plain) (T·Rows .items) (now (self .entry)) m → r ≡ answer (list-fault (length (now (list .entry)))) (length (labels-of (λ v. V·Kind .satisfied v number) (m .places)))) ⌝ }
+        ensures written { λ r. ⌜ ((m : Meaning V) → Shows (V·Kind .plain) (T·Rows .items) (now (self .entry)) m → now (list .exit) ≡ unless (list-fault (length (now (list .entry)))) (now (list .entry)) (over-start (labels-of (λ v. V·Kind .satisfied v number) (m .places)) (now (list .entry)))) ⌝ }
+        ensures held { λ r. ⌜ ((m : Meaning V) → Shows (V·Kind .plain) (T·Rows .items) (now (self .entry)) m → Shows (V·Kind .plain) (T·Rows .items) (now (self .exit)) (unless (list-fault (length (now (list .entry)))) m (asked-once m))) ⌝ }
+        ensures asked { λ r. ⌜ made r (λ _. (l : List ℕ) → now (self .entry) .asked ≡ length l % 2 ^ 32 → now (self .exit) .asked ≡ length (l ++ number ∷ []) % 2 ^ 32) ⌝ }
+        ensures short { λ r. ⌜ (length (now (list .entry)) < 96 → r ≡ Err (Short (length (now (list .entry))))) ⌝ }
+        ensures kept { λ r. ⌜ (isErr r ≡ true → (now (self .exit) ≡ now (self .entry)) × (now (list .exit) ≡ now (list .entry))) ⌝ }
+        ensures few { λ r. ⌜ made r (λ n. n ≤ 96) ⌝ }
+        ensures rest { λ _. ⌜ Rest-kept (T·Rows .items) (now (self .entry)) (now (self .exit)) ⌝ }
+    {
         let used = self.used;
         let marks = satisfied_marks::<R, V>(self.table.rows(), &used, number);
         let count = write_marked(&marks, list)?;

@@ -39,6 +39,7 @@ returns-in-Break-count g c =
       short = λ h. same ∙ w .result ∙ short-list (length old) (length (marked marks)) h;
       kept = λ _. (refl, w .written ∙ unless-refused fault (length (marked marks)) (c .in-Break-count .field-0 .0) fails old (over-start (marked marks) old));
       few = made-from-err (c .from-residual .result) _ (c .from-residual .ensures .0);
+      rest = refl;
     }
 
 pub returns : need.returns
@@ -65,4 +66,5 @@ returns g c =
       short = λ h. sym made ∙ short-list (length old) (length (marked marks)) h;
       kept = λ e. absurd (false≢true e);
       few = c .in-Continue-count .ensures tt .few;
+      rest = refl;
     }

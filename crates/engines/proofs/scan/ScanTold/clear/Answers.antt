@@ -24,6 +24,7 @@ returns-then-at-ge-PLACES g c =
       held = λ m h. let n = h .proper .size in subst Shows (kept-empty m l (getD-past (m .places) l None (omega (arith, c .if-at-ge-PLACES .taken)))) h;
       kept = λ _. refl;
       asked = λ _ e. e;
+      rest = refl;
     }
 
 pub returns-in-rest : need.returns-in-rest
@@ -38,6 +39,7 @@ returns-in-rest g c =
       held = λ m h. subst Shows (kept-empty m l (sym (none m h))) h;
       kept = λ _. refl;
       asked = λ _ e. e;
+      rest = refl;
     }
 
 pub returns : need.returns
@@ -62,4 +64,5 @@ returns g c =
       };
       kept = λ e. absurd (false≢true e);
       asked = λ _ e. e;
+      rest = refl;
     }

@@ -15,4 +15,5 @@ returns g c = record {
     counted = refl;
   };
   asked = refl;
+  rest = refl;
 }

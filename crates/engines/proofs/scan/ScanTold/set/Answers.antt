@@ -2,9 +2,10 @@ use mathlib.Core.Path.{_≡_, refl, sym, ap, subst, _∙_}
 use mathlib.Core.Bool.{Bool, true, false}
 use mathlib.Core.List.{List}
 use Prim.Native.Nat.{ℕ, _<_}
-use lib.ListN.{length, getD, set}
+use lib.ListN.{length, getD, set, drop}
 use Rattle.std.specs.declared.option.Option.{Option}
 use Rattle.std.specs.declared.option.Option.the-variants.{Some, None}
+use Rattle.std.proofs.shelf.Lists.{drop-set-lt}
 use Rattle.std.proofs.shelf.Tests.{false≢true}
 use Rattle.fields.specs.declared.faults.Fault.{Fault}
 use Rattle.fields.specs.declared.faults.Fault.the-variants.{Full}
@@ -29,6 +30,7 @@ returns-then-is-full g c =
       held = λ m h. subst (λ (o : Option Fault). Shows (unless o m (put m l (Some v)))) (sym (fault m h)) h;
       kept = λ _. refl;
       asked = λ _ e. e;
+      rest = refl;
     }
 
 pub returns : need.returns
@@ -61,4 +63,5 @@ returns g c =
       held = λ m h. subst (λ (o : Option Fault). Is (unless o m (put m l (Some v)))) (sym (fault m h)) (after m h);
       kept = λ e. absurd (false≢true e);
       asked = λ _ e. e;
+      rest = ap (drop 96) rows ∙ drop-set-lt 96 (g .T·Rows .items (s .table)) l (plain v) (c .if-at-ge-PLACES .left);
     }
