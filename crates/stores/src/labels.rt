@@ -20,11 +20,11 @@ pub fn entry_at<T: Copy>(list: &[Option<T>], index: usize) -> Option<T>
 }
 
 // Writes at an index; past the end this changes nothing.
-pub fn put_at<T: Copy>(list: &mut [Option<T>], index: usize, value: Option<T>)
-    ensures { λ _. ⌜ now (list .exit) ≡ set (now (list .entry)) index value ⌝ }
+pub fn put_at<T: Copy>(list: &mut [Option<T>], i: usize, value: Option<T>)
+    ensures { λ _. ⌜ now (list .exit) ≡ set (now (list .entry)) i value ⌝ }
 {
-    if index < list.len() {
-        list[index] = value;
+    if i < list.len() {
+        list[i] = value;
     }
 }
 

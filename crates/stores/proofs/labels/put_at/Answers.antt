@@ -2,5 +2,5 @@ use mathlib.Core.Path.{sym}
 use Rattle.std.proofs.shelf.Lists.{set-past}
 use Rattle.stores.proofs.labels.put_at.Needs as need
 
-pub returns-else-index-list : need.returns-else-index-list
-returns-else-index-list g c = sym (set-past (c .args .list .now) (c .args .index) (c .args .value) (c .if-index-list .left))
+pub returns-else-i-list : need.returns-else-i-list
+returns-else-i-list g c = sym (set-past (c .args .list .now) (c .args .i) (c .args .value) (c .if-i-list .left))
