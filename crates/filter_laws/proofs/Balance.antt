@@ -2,7 +2,6 @@
 use mathlib.Core.Path.{_≡_, refl, sym, ap, subst, _∙_}
 use mathlib.Core.Bool.{Bool, true, false, cond, _||_}
 use mathlib.Core.List.{List, [], _∷_, map}
-use mathlib.Core.Logic.{_⊎_, inl, inr, ⊎-elim}
 use Prim.Native.Nat.{ℕ, _+_}
 use native.Mathlib.Omega.{arith}
 use Rattle.std.specs.Orderings.{Decides}
@@ -18,15 +17,15 @@ use Rattle.filters.specs.declared.rows.FilterRow.{FilterRow}
 use Rattle.filters.specs.declared.calls.Call.{Call}
 use Rattle.filters.specs.declared.calls.Call.the-variants.{Add, Remove, Inspect, Search}
 use Rattle.filters.specs.Counting.{some, total, different}
-use Rattle.filters.specs.Values.{Value, same-row}
-use Rattle.filters.specs.Filters.{row, ranks-ahead, same-identifier}
-use Rattle.filters.specs.Standing.{refusal, put, without, after, standing}
+use Rattle.filters.specs.Values.{same-row}
+use Rattle.filters.specs.Filters.{row, same-identifier}
+use Rattle.filters.specs.Standing.{refusal, put, without, after}
 use Rattle.filters.specs.Scans.{first}
-use Rattle.filters.specs.Labels.{fields, nodes, in-use, alone, if-any, of-identifier, field-labels, node-labels}
+use Rattle.filters.specs.Labels.{fields, nodes, in-use, alone, if-any, of-identifier}
 use Rattle.filters.specs.Answers.{Reply, replies, answer}
 use Rattle.filter_laws.specs.Runs.{answers, new-in-fields, new-at-nodes, freed-in-fields, freed-at-nodes, Balanced}
 use Rattle.filter_laws.proofs.Sameness.{row-decides}
-use Rattle.filter_laws.proofs.Edits.{put-cases, without-cases}
+use Rattle.filter_laws.proofs.Edits.{put-cases}
 
 -- ys is xs with x put in somewhere
 pub data Grown {X : Type 0} (x : X) : List X → List X → Type 0 where

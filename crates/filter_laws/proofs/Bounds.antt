@@ -2,11 +2,11 @@
 use mathlib.Core.Path.{_≡_, refl, sym, ap, subst, _∙_}
 use mathlib.Core.Bool.{Bool, true, false, cond, _||_}
 use mathlib.Core.List.{List, [], _∷_, _++_, map}
-use mathlib.Core.Logic.{_⊎_, inl, inr, ⊎-elim}
+use mathlib.Core.Logic.{_⊎_, ⊎-elim}
 use Prim.Native.Nat.{ℕ, zero, suc, _+_, _-_, _≤_}
 use native.Mathlib.Omega.{arith}
 use lib.Dec.{eqb}
-use lib.ListN.{length, take}
+use lib.ListN.{length}
 use Rattle.std.specs.Vec.{made}
 use Rattle.std.specs.shelf.Lists.{All}
 use Rattle.std.specs.declared.option.Option.{Option}
@@ -24,9 +24,8 @@ use Rattle.filters.specs.Counting.{Pairwise, some, total, up-to}
 use Rattle.filters.specs.Values.{Value, same-row}
 use Rattle.filters.specs.Filters.{values, field, row, same-values, same-identifier}
 use Rattle.filters.specs.Standing.{node-count, refusal, without, standing}
-use Rattle.filters.specs.Scans.{first}
 use Rattle.filters.specs.Labels.{fields, nodes, node-fields, rows, alone, if-any, of-identifier, new-field-labels, new-node-labels}
-use Rattle.filters.specs.Answers.{Reply, replies, answer}
+use Rattle.filters.specs.Answers.{Reply, replies}
 use Rattle.filters.proofs.Checks.{accepted-add, accepted-removal}
 use Rattle.filter_laws.specs.Histories.{Ordered}
 use Rattle.filter_laws.specs.Runs.{In-bounds, Bounded}

@@ -1,9 +1,8 @@
 -- Lists in rank order that have the same filters are equal, so what stands decides everything.
 use mathlib.Core.Path.{_≡_, refl, sym, ap, subst, _∙_}
-use mathlib.Core.Bool.{Bool, true, false}
+use mathlib.Core.Bool.{true}
 use mathlib.Core.List.{List, [], _∷_}
 use mathlib.Core.Logic.{_⊎_, inl, inr, ⊎-elim}
-use Prim.Native.Nat.{ℕ}
 use Rattle.std.proofs.shelf.Tests.{both-ways}
 use Rattle.filters.specs.declared.rows.FilterRow.{FilterRow}
 use Rattle.filters.specs.declared.calls.Call.{Call}

@@ -1,19 +1,18 @@
 -- After every list of calls the filters stand in order.
-use mathlib.Core.Path.{_≡_, refl, sym, ap, subst, _∙_}
-use mathlib.Core.Bool.{Bool, true, false}
+use mathlib.Core.Path.{_≡_, sym, ap}
+use mathlib.Core.Bool.{true}
 use mathlib.Core.List.{List, [], _∷_}
-use Prim.Native.Nat.{ℕ, suc, _≤_}
+use Prim.Native.Nat.{ℕ}
 use native.Mathlib.Omega.{arith}
-use lib.ListN.{length}
-use Rattle.std.specs.shelf.Lists.{All, folded}
+use Rattle.std.specs.shelf.Lists.{folded}
 use Rattle.std.specs.declared.option.Option.the-variants.{None}
 use Rattle.std.proofs.shelf.Elements.{all-weaker}
 use Rattle.filters.specs.declared.rows.FilterRow.{FilterRow}
 use Rattle.filters.specs.declared.calls.Call.{Call}
 use Rattle.filters.specs.declared.calls.Call.the-variants.{Add, Remove, Inspect, Search}
 use Rattle.filters.specs.Filters.{values, same-values, accepted, lawful}
-use Rattle.filters.specs.Standing.{capacity, refusal, put, without, after, standing}
-use Rattle.filters.proofs.Checks.{Accepted, accepted-add}
+use Rattle.filters.specs.Standing.{refusal, put, without, after, standing}
+use Rattle.filters.proofs.Checks.{accepted-add}
 use Rattle.filter_laws.specs.Histories.{Ordered}
 use Rattle.filter_laws.proofs.Sameness.{row-decides}
 use Rattle.filter_laws.proofs.Edits.{unless-cases, length-put, length-without, all-put, all-without, pairwise-put, pairwise-without, ranked-put, fresh-all, untwinned}

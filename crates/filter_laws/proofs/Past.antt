@@ -5,13 +5,11 @@ use mathlib.Core.Logic.{_⊎_, inl, inr, ⊎-elim}
 use Prim.Native.Nat.{ℕ, zero, suc, _<_, _≤_}
 use native.Mathlib.Omega.{arith}
 use lib.ListN.{length, take}
-use Rattle.std.specs.shelf.Lists.{folded}
 use Rattle.std.specs.shelf.Maps.{nth}
-use Rattle.std.specs.declared.option.Option.{Option}
 use Rattle.std.specs.declared.option.Option.the-variants.{Some, None}
 use Rattle.std.proofs.shelf.Lists.{take-at, take-append-le, append-nil}
 use Rattle.std.proofs.shelf.Sums.{folded-push}
-use Rattle.std.proofs.shelf.Tests.{cases-order, cases-lt}
+use Rattle.std.proofs.shelf.Tests.{cases-order}
 use Rattle.filters.specs.declared.rows.FilterRow.{FilterRow}
 use Rattle.filters.specs.declared.calls.Call.{Call}
 use Rattle.filters.specs.declared.calls.Call.the-variants.{Add, Remove, Inspect, Search}

@@ -4,12 +4,9 @@ use mathlib.Core.Bool.{true, false}
 use mathlib.Core.List.{List, [], _∷_}
 use Prim.Native.Nat.{ℕ}
 use lib.ListN.{take}
-use Rattle.std.specs.declared.option.Option.{Option}
 use Rattle.std.specs.declared.option.Option.the-variants.{Some, None}
-use Rattle.std.specs.declared.result.Result.{Result}
 use Rattle.std.specs.declared.result.Result.the-variants.{Ok, Err}
 use Rattle.std.specs.Options.{mapped}
-use Rattle.fields.specs.declared.faults.Fault.{Fault}
 use Rattle.fields.specs.declared.faults.Fault.the-variants.{Unknown}
 use Rattle.fields.specs.declared.prefixes.PrefixRow.{PrefixRow}
 use Rattle.fields.specs.declared.ranges.RangeRow.{RangeRow}
@@ -27,7 +24,7 @@ use Rattle.filters.specs.declared.calls.Call.{Call}
 use Rattle.filters.specs.declared.calls.Call.the-variants.{Add, Remove, Inspect, Search}
 use Rattle.filters.specs.Standing.{standing}
 use Rattle.filters.specs.Labels.{pairs}
-use Rattle.filters.specs.Answers.{Reply, added, removed, counted, searched}
+use Rattle.filters.specs.Answers.{added, removed, counted, searched}
 use Rattle.filter_laws.specs.Runs.{answers}
 
 abbrev prefix : ℕ → ℕ → PrefixRow

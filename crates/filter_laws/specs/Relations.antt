@@ -1,10 +1,9 @@
 -- Relations: what a scan gives, in terms of rank alone; and that what stands decides everything.
 use mathlib.Core.Path.{_≡_}
-use mathlib.Core.Bool.{Bool, true, false}
+use mathlib.Core.Bool.{true, false}
 use mathlib.Core.List.{List}
 use Prim.Native.Nat.{ℕ, min}
 use lib.ListN.{length}
-use Rattle.std.specs.declared.option.Option.{Option}
 use Rattle.std.specs.declared.option.Option.the-variants.{Some, None}
 use Rattle.filters.specs.declared.rows.FilterRow.{FilterRow}
 use Rattle.filters.specs.declared.rows.Header.{Header}

@@ -1,5 +1,5 @@
 -- The filter table: as many filters stand as it counts, and what edits leave in it.
-use mathlib.Core.Path.{_≡_, refl, sym, ap, subst, _∙_}
+use mathlib.Core.Path.{_≡_, refl, sym, ap, _∙_}
 use mathlib.Core.Bool.{Bool, true, false, cond, _&&_}
 use mathlib.Core.List.{List, _++_}
 use Prim.Native.Nat.{ℕ, _+_, _-_, _<_, _≤_}
@@ -7,7 +7,6 @@ use native.Mathlib.Nat.{sub-zero}
 use native.Mathlib.Omega.{arith}
 use lib.Dec.{ltb, leb}
 use lib.ListN.{length, take, drop}
-use Rattle.std.specs.declared.option.Option.{Option}
 use Rattle.std.specs.declared.option.Option.the-variants.{Some, None}
 use Rattle.std.specs.Options.{isSome}
 use Rattle.std.specs.shelf.Lists.{inserted, removed}
@@ -24,7 +23,7 @@ use Rattle.filters.specs.Standing.{capacity, refusal, put, without, position, r
 use Rattle.filter_table.specs.Tables.{held}
 use Rattle.filter_table.proofs.Places.{before-le, some-before, every-put, every-removed, put-is, without-is}
 use Rattle.filter_table.proofs.Shifting.{opened-held, opened-size, closed-held, closed-size}
-use Rattle.filters.proofs.Checks.{Accepted, accepted-add}
+use Rattle.filters.proofs.Checks.{accepted-add}
 
 pub held-length : (t : FilterTable) → length (held t) ≡ t .count
 held-length t = let s = t .size in let f = t .few in length-take-le (t .count) (t .rows) (omega arith)

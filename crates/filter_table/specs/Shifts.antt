@@ -1,6 +1,6 @@
 -- Tables whose first rows are in use: one row put in at a position, or taken out of it. The rows behind it move by one place, and every other place keeps what it holds.
 use mathlib.Core.Bool.{cond, _&&_}
-use mathlib.Core.List.{List, [], _∷_, _++_}
+use mathlib.Core.List.{List, _++_}
 use Prim.Native.Nat.{ℕ, _+_, _-_}
 use lib.Dec.{leb, ltb}
 use lib.ListN.{take, drop}

@@ -1,5 +1,4 @@
 -- The filter table: what stands in it.
-use mathlib.Core.Path.{_≡_}
 use mathlib.Core.List.{List}
 use lib.ListN.{take}
 use Rattle.filters.specs.declared.rows.FilterRow.{FilterRow}

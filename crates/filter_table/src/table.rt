@@ -9,6 +9,7 @@ use crate::shifts::CAPACITY;
 use filters::rows::FilterRow;
 
 pub mod checks;
+pub mod counts;
 pub mod edits;
 pub mod scans;
 

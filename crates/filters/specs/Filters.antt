@@ -6,7 +6,6 @@ use lib.Dec.{eqb, ltb}
 use lib.ListN.{getD}
 use Rattle.std.specs.declared.option.Option.{Option}
 use Rattle.std.specs.declared.option.Option.the-variants.{Some, None}
-use Rattle.std.specs.Options.{isSome}
 use Rattle.fields.specs.declared.faults.Fault.{Fault}
 use Rattle.fields.specs.declared.faults.Fault.the-variants.{Identifier}
 use Rattle.fields.specs.declared.protocols.ProtocolRow.the-variants.{Any}

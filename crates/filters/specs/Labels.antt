@@ -1,5 +1,5 @@
 -- Labels: how many are in use, come into use and are freed, and how many pairs a search asks. All of it depends on the network order, the standing filters and the call alone.
-use mathlib.Core.Bool.{Bool, true, cond}
+use mathlib.Core.Bool.{true, cond}
 use mathlib.Core.List.{List, [], _∷_, map}
 use Prim.Native.Nat.{ℕ, _+_, _-_, _*_}
 use lib.Dec.{leb}
@@ -20,9 +20,11 @@ use Rattle.filters.specs.Scans.{first}
 abbrev pub node-fields : List ℕ → ℕ → List ℕ
 node-fields order j = take (j + 1) order
 
+-- the fields of a place to inspect: a field, or a node counted on behind the fields
 abbrev pub place-fields : List ℕ → ℕ → List ℕ
 place-fields order p = cond (leb p field-count) (p ∷ []) (node-fields order (p - field-count))
 
+-- where field labels are, and where combination labels are
 abbrev pub fields : List (List ℕ)
 fields = map (λ k. k ∷ []) (up-to field-count)
 
@@ -43,7 +45,7 @@ field-labels fs = total (in-use fs) fields
 abbrev pub node-labels : List ℕ → List FilterRow → ℕ
 node-labels order fs = total (in-use fs) (nodes order)
 
--- f has a row there that none of fs has
+-- 1 if f has a row there that none of fs has
 abbrev pub alone : FilterRow → List FilterRow → List ℕ → ℕ
 alone f fs ks = cond (some (same-row (row ks f)) (rows ks fs)) 0 1
 
@@ -54,14 +56,16 @@ new-field-labels f fs = total (alone f fs) fields
 abbrev pub new-node-labels : List ℕ → FilterRow → List FilterRow → ℕ
 new-node-labels order f fs = total (alone f fs) (nodes order)
 
+-- the standing filter of an identifier
 abbrev pub of-identifier : ℕ → List FilterRow → Option FilterRow
 of-identifier id fs = first (same-identifier id) fs
 
--- labels that are freed with a filter: those that it would bring into use again
+-- a count for what there is, and 0 for nothing
 abbrev pub if-any : {X : Type 0} → (X → ℕ) → Option X → ℕ
 if-any n None = 0
 if-any n (Some x) = n x
 
+-- labels that are freed with a filter: those that it would bring into use again
 abbrev pub freed-field-labels : ℕ → List FilterRow → ℕ
 freed-field-labels id fs = if-any (λ f. new-field-labels f (without id fs)) (of-identifier id fs)
 
@@ -72,6 +76,7 @@ freed-node-labels order id fs = if-any (λ f. new-node-labels order f (without i
 abbrev pub sharers : List ℕ → List FilterRow → FilterRow → ℕ
 sharers ks fs f = how-many (same-row (row ks f)) (rows ks fs)
 
+-- the count that inspect answers
 abbrev pub label-count : List ℕ → ℕ → ℕ → List FilterRow → ℕ
 label-count order id p fs = if-any (sharers (place-fields order p) fs) (of-identifier id fs)
 

@@ -13,12 +13,14 @@ use Rattle.filters.specs.declared.calls.Best.{Best}
 use Rattle.filters.specs.declared.calls.Scanned.{Scanned}
 use Rattle.filters.specs.Filters.{matches, exclusive}
 
+-- an exclusive filter that the header matches may win, and a non-exclusive one joins the list
 abbrev pub wins : Header → FilterRow → Bool
 wins h f = exclusive (f .class) && matches f h
 
 abbrev pub joins : Header → FilterRow → Bool
 joins h f = not (exclusive (f .class)) && matches f h
 
+-- the first element that passes
 abbrev pub first : {X : Type 0} → (X → Bool) → List X → Option X
 first p [] = None
 first p (x ∷ xs) = cond (p x) (Some x) (first p xs)
@@ -41,6 +43,7 @@ scan fs h r = record { winner = best fs h; list = listed fs h r }
 abbrev pub told : FilterRow → Best
 told f = record { identifier = f .identifier; flow = f .flow }
 
+-- what the scan of a table answers
 abbrev pub scan-answer : List FilterRow → Header → ℕ → Scanned
 scan-answer fs h r = record { best = mapped told (best fs h); listed = length (listed fs h r) }
 

@@ -25,7 +25,7 @@ capacity = 96
 abbrev pub most-listed : ℕ
 most-listed = 16
 
--- two fields have a node more than one, so there is a node fewer than there are fields
+-- the first node combines two fields, and each further node one more
 abbrev pub node-count : ℕ
 node-count = field-count - 1
 
@@ -33,24 +33,26 @@ node-count = field-count - 1
 abbrev pub is-place : ℕ → Bool
 is-place p = leb 1 p && leb p (field-count + node-count)
 
--- the first standing filter that has the values of f
+-- the refusal of f by the first standing filter that has its values
 abbrev pub twin : List FilterRow → FilterRow → Option Fault
 twin [] f = None
 twin (g ∷ gs) f = cond (same-values g f) (Some (Twin (g .identifier))) (twin gs f)
 
--- checks against what stands
+-- what an add checks against the standing filters: identifier, values, room
 abbrev pub adding-checks : List FilterRow → FilterRow → List (Option Fault)
 adding-checks fs f = when (some (same-identifier (f .identifier)) fs) (Stands (f .identifier))
     ∷ twin fs f
     ∷ when (leb capacity (length fs)) Crowded ∷ []
 
+-- an identifier that must stand
 abbrev pub standing-check : List FilterRow → ℕ → Option Fault
 standing-check fs id = when (not (some (same-identifier id) fs)) (Unknown id)
 
+-- a search may list r filters, and its answer list has room for so many
 abbrev pub search-checks : ℕ → ℕ → List (Option Fault)
 search-checks r room = when (ltb most-listed r) (Limit r) ∷ when (ltb room r) (Answers room) ∷ []
 
--- all checks of a call, in their order
+-- all checks of a call, in their order; an add first checks its row by itself
 abbrev pub checks : List FilterRow → Call → List (Option Fault)
 checks fs (Add f) = row-checks f ++ adding-checks fs f
 checks fs (Remove id) = when (eqb id 0) Identifier ∷ standing-check fs id ∷ []

@@ -1,7 +1,6 @@
 // Changing the filter table: it becomes what the filter list is after the call.
 ghost use mathlib.Core.Path.{_≡_};
 ghost use mathlib.Core.List.{[]};
-ghost use lib.ListN.{length};
 ghost use Rattle.std.specs.shelf.Maps.{nth};
 ghost use Rattle.fields.specs.Faults.{answer};
 ghost use Rattle.filters.specs.declared.calls.Call.the-variants.{Add, Remove};
@@ -49,13 +48,6 @@ impl FilterTable {
             rows: [VACANT; CAPACITY],
             count: 0,
         }
-    }
-
-    // How many filters stand.
-    pub fn count(&self) -> usize
-        ensures { λ r. ⌜ r ≡ length (held (now (self .entry))) ⌝ }
-    {
-        self.count
     }
 
     // The filter at a position in rank order, from 0.

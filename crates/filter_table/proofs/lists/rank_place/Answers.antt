@@ -1,4 +1,4 @@
-use mathlib.Core.Path.{_≡_, sym}
+use mathlib.Core.Path.{sym}
 use native.Mathlib.Omega.{arith}
 use Rattle.filters.specs.Filters.{ranks-ahead}
 use Rattle.filter_table.proofs.Places.{before-here, before-more, before-all}

@@ -1,8 +1,6 @@
 use mathlib.Core.Path.{_≡_, _∙_, sym}
 use mathlib.Core.Bool.{true, _&&_}
-use Prim.Native.Nat.{_<_, _≤_}
 use lib.Dec.{ltb, leb}
-use lib.ListN.{length}
 use native.Mathlib.Omega.{arith}
 use borrow.Author.Needs.{needs}
 use Rattle.std.proofs.shelf.Ways.{tells}

@@ -1,10 +1,7 @@
-use mathlib.Core.Path.{_≡_, sym, ap, _∙_}
-use mathlib.Core.List.{List}
-use Prim.Native.Nat.{ℕ}
+use mathlib.Core.Path.{sym, ap, _∙_}
 use Rattle.std.specs.declared.option.Option.{Option}
 use Rattle.fields.specs.declared.faults.Fault.{Fault}
 use Rattle.fields.specs.Faults.{answer, unless}
-use Rattle.filters.specs.declared.rows.FilterRow.{FilterRow}
 use Rattle.filters.specs.Standing.{put, rank-place}
 use Rattle.filter_table.specs.Tables.{held}
 use Rattle.std.specs.declared.result.Result.the-variants.{Ok}
