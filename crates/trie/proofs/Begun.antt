@@ -1,19 +1,19 @@
 -- The bit strings that held prefixes begin with.
-use mathlib.Core.Path.{_≡_, refl, sym, ap, subst, _∙_}
-use mathlib.Core.Logic.{_⊎_, inl, inr, ⊎-elim, _≢_}
-use mathlib.Core.List.{List, [], _∷_}
-use Prim.Native.Nat.{ℕ, zero, suc, _+_, _-_, _*_, _/_, _%_, _^_, _<_, _≤_}
+use mathlib.Core.Path.{_≡_, sym, ap, subst, _∙_}
+use mathlib.Core.Logic.{_⊎_, inl, inr, ⊎-elim}
+use mathlib.Core.List.{List}
+use Prim.Native.Nat.{ℕ, _+_, _-_, _*_, _/_, _^_, _<_, _≤_}
 use native.Mathlib.Omega.{arith}
-use lib.ListN.{length, getD, set, length-set}
-use lib.Pow.{pow-pos, pow-mono}
+use lib.ListN.{length, getD, set}
+use lib.Pow.{pow-mono}
 use Rattle.std.proofs.shelf.Lists.{getD-set-same, getD-set-other}
-use Rattle.std.proofs.shelf.Tests.{cases-eq, cases-lt}
+use Rattle.std.proofs.shelf.Tests.{cases-eq}
 use Rattle.std.specs.declared.option.Option.{Option}
 use Rattle.std.specs.declared.option.Option.the-variants.{Some, None}
 use Rattle.fields.specs.declared.prefixes.PrefixRow.{PrefixRow}
-use Rattle.trie.specs.Strings.{string, bit-after, code, codes, first-strings, beginnings, Among, Begins}
-use Rattle.trie.specs.Trees.{Lawful, Lawful-at}
-use Rattle.trie.proofs.Bitstrings.{same-parent, doubled, rest-below, string-pos, string-none, bit-below, string-more, same-length, agree-shorter, among-strings, strings-among}
+use Rattle.trie.specs.Strings.{string, bit-after, code, first-strings, beginnings, Among, Begins}
+use Rattle.trie.specs.Trees.{Lawful-at}
+use Rattle.trie.proofs.Bitstrings.{same-parent, doubled, rest-below, string-pos, bit-below, string-more, same-length, agree-shorter, among-strings, strings-among}
 
 -- a prefix that begins with a string begins with what that begins with
 pub shorter-begins : (o : Option PrefixRow) (a k j : ℕ) → Lawful-at o → a < 2 ^ 32 → k ≤ 32 → 0 < j → j ≤ k → Among (string a k) (beginnings o) → Among (string a j) (beginnings o)

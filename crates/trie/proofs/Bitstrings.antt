@@ -1,11 +1,10 @@
 -- Bit strings as numbers: their bits, their lengths, and what a shift makes of them.
-use mathlib.Core.Path.{_≡_, refl, sym, ap, subst, _∙_}
+use mathlib.Core.Path.{_≡_, sym, ap, subst, _∙_}
 use mathlib.Core.Logic.{_⊎_, inl, inr, ⊎-elim}
-use mathlib.Core.List.{List, [], _∷_}
 use Prim.Native.Nat.{ℕ, zero, suc, _+_, _-_, _*_, _/_, _%_, _^_, _<_, _≤_}
 use native.Mathlib.Omega.{arith}
 use native.Mathlib.Nat.{div-add-mod, mul-add-div-right}
-use lib.ListN.{length, getD}
+use lib.ListN.{length}
 use lib.Pow.{pow-pos, pow-mono}
 use Rattle.std.proofs.shelf.Bits.{pow-add, shr-below, shr-shr, shr-split, mod-below}
 use Rattle.std.proofs.shelf.Tests.{cases-order, cases-lt}

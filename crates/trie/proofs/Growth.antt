@@ -1,20 +1,19 @@
 -- A prefix gets its nodes: there is always room for them, and each node stays needed.
 use mathlib.Core.Path.{_≡_, refl, sym, ap, subst, _∙_}
-use mathlib.Core.Logic.{_⊎_, inl, inr, ⊎-elim, _≢_}
-use mathlib.Core.Bool.{Bool, true, false, cond}
-use mathlib.Core.List.{List, [], _∷_}
-use Prim.Native.Nat.{ℕ, zero, suc, _+_, _-_, _*_, _/_, _%_, _^_, _<_, _≤_}
+use mathlib.Core.Logic.{_⊎_, inl, inr, ⊎-elim}
+use mathlib.Core.Bool.{cond}
+use mathlib.Core.List.{List, _∷_}
+use Prim.Native.Nat.{ℕ, _+_, _-_, _*_, _<_, _≤_}
 use native.Mathlib.Omega.{arith}
 use lib.Dec.{eqb}
 use lib.ListN.{length, getD, set, length-set}
-use Rattle.std.proofs.shelf.Tests.{cases-eq, cases-lt}
-use Rattle.std.specs.declared.option.Option.{Option}
+use Rattle.std.proofs.shelf.Lists.{getD-set-other}
 use Rattle.std.specs.declared.option.Option.the-variants.{Some, None}
 use Rattle.fields.specs.declared.prefixes.PrefixRow.{PrefixRow}
 use Rattle.trie.specs.declared.nodes.Node.{Node}
 use Rattle.trie.specs.declared.nodes.Tree.{Tree}
-use Rattle.trie.specs.Strings.{string, bit-after, code, codes, first-strings, beginnings, all-beginnings, Among, Distinct, Begins}
-use Rattle.trie.specs.Trees.{blank, at, child, linked, labelled, Stack, Listed, Lawful, Frame, Nearly, Good, Ends, Growing}
+use Rattle.trie.specs.Strings.{string, bit-after, code, codes, first-strings, all-beginnings, Among, Distinct, Begins}
+use Rattle.trie.specs.Trees.{blank, at, linked, labelled, with-node, with-row, popped, Stack, Listed, Good, Ends, Growing}
 use Rattle.trie.proofs.Bitstrings.{shift-none, string-pos, bit-below, string-more, strings-among}
 use Rattle.trie.proofs.Counting.{part-length, begins-among, all-few}
 use Rattle.trie.proofs.Begun.{row-at, row-off, lawful-set, filled-begins}
@@ -105,11 +104,21 @@ module _ (t : Tree) (row : PrefixRow) (i k : ℕ) (g : Growing t row i k) (less 
         vacant = g .vacant;
       }
 
-  pub extended-as : (m : Node) → m ≡ linked (at (t .nodes) i) b n → Growing record { rows = t .rows; nodes = set (set (t .nodes) n blank) i m; free = t .free; spare = top } row n (k + 1)
-  extended-as m e = subst (λ (y : Node). Growing record { rows = t .rows; nodes = set (set (t .nodes) n blank) i y; free = t .free; spare = top } row n (k + 1)) (sym e) extended
+  -- as a node is taken off the stack, wiped and linked
+  pub extended-as : (r d : ℕ) (u v w : Tree) → r ≡ n → d ≡ b → u ≡ popped t → v ≡ with-node u r blank → w ≡ with-node v i (linked (at (v .nodes) i) d r) → Growing w row r (k + 1)
+  extended-as r d u v w er ed eu ev ew =
+      let idle = g .frame .stack .idle top lt in
+      let off : at (set (t .nodes) n blank) i ≡ at (t .nodes) i = getD-set-other (t .nodes) n i blank blank (λ e. let li = in-use t row i k g in omega (arith, ap (g .key) e)) in
+      let done : w ≡ with-node (with-node (popped t) n blank) i (linked (at (t .nodes) i) b n) =
+      ew
+      ∙ ap (λ (x : Tree). with-node x i (linked (at (x .nodes) i) d r)) (ev ∙ ap (λ (x : Tree). with-node x r blank) eu)
+      ∙ ap (λ (x : ℕ). with-node (with-node (popped t) x blank) i (linked (at (set (t .nodes) x blank) i) d x)) er
+      ∙ ap (λ (x : ℕ). with-node (with-node (popped t) n blank) i (linked (at (set (t .nodes) n blank) i) x n)) ed
+      ∙ ap (λ (x : Node). with-node (with-node (popped t) n blank) i (linked x b n)) off in
+      subst (λ (x : Tree). Growing x row r (k + 1)) (sym done) (subst (λ (x : ℕ). Growing (with-node (with-node (popped t) n blank) i (linked (at (t .nodes) i) b n)) row x (k + 1)) (sym er) extended)
 
 -- the last node gets the label
-pub filled : (t : Tree) (row : PrefixRow) (i p : ℕ) → Growing t row i (row .length) → p < 96 → getD (t .rows) p None ≡ None → ((l : ℕ) → codes (t .rows) l ≡ code (Some row) → ⊥)
+filled : (t : Tree) (row : PrefixRow) (i p : ℕ) → Growing t row i (row .length) → p < 96 → getD (t .rows) p None ≡ None → ((l : ℕ) → codes (t .rows) l ≡ code (Some row) → ⊥)
     → Good record { rows = set (t .rows) p (Some row); nodes = set (t .nodes) i (labelled (at (t .nodes) i) (Some p)); free = t .free; spare = t .spare }
 filled t row i p g lp vacant new =
     let few : p < length (t .rows) = omega (arith, g .frame .size) in
@@ -129,3 +138,6 @@ filled t row i p g lp vacant new =
       };
       needed = λ j pj lj. filled-begins (t .rows) p row few vacant (g .key j) (g .nearly j pj lj);
     }
+
+pub filled-as : (t : Tree) (row : PrefixRow) (i p : ℕ) (u : Tree) → u ≡ with-node t i (labelled (at (t .nodes) i) (Some p)) → Growing t row i (row .length) → p < 96 → getD (t .rows) p None ≡ None → ((l : ℕ) → codes (t .rows) l ≡ code (Some row) → ⊥) → Good (with-row u p (Some row))
+filled-as t row i p u e g lp vacant new = subst (λ (x : Tree). Good (with-row x p (Some row))) (sym e) (filled t row i p g lp vacant new)

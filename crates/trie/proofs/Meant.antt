@@ -1,25 +1,24 @@
 -- The values at the places, and their rows.
 use mathlib.Core.Path.{_≡_, refl, sym, ap, subst, _∙_}
-use mathlib.Core.Logic.{_⊎_, inl, inr, ⊎-elim, ∥∥₁-elim}
-use mathlib.Core.Bool.{Bool, true, false, cond}
-use mathlib.Core.List.{List, [], _∷_, _++_, map}
-use Prim.Native.Nat.{ℕ, zero, suc, _+_, _<_, _≤_}
+use mathlib.Core.Logic.{_⊎_, ⊎-elim, ∥∥₁-elim}
+use mathlib.Core.Bool.{Bool, true, false}
+use mathlib.Core.List.{List, [], _∷_, _++_}
+use Prim.Native.Nat.{ℕ, zero, suc, _+_, _<_}
 use native.Mathlib.Omega.{arith}
 use native.Mathlib.Nat.{ℕ-set}
-use lib.Dec.{eqb, ltb}
 use lib.ListN.{length, getD, set}
 use Rattle.std.specs.Orderings.{Decides}
 use Rattle.std.proofs.shelf.Lists.{length-map}
-use Rattle.std.proofs.shelf.Tests.{cases-bool, cond-true, cond-false, eq-eqb, eqb-true, eqb-false}
+use Rattle.std.proofs.shelf.Tests.{cases-bool, cond-true, cond-false}
 use Rattle.std.specs.declared.option.Option.{Option}
 use Rattle.std.specs.declared.option.Option.the-variants.{Some, None}
 use Rattle.fields.specs.declared.prefixes.Prefix.{Prefix}
 use Rattle.fields.specs.declared.prefixes.PrefixRow.{PrefixRow}
-use Rattle.parts.specs.Meaning.{Meaning, at, find-from, find, full}
+use Rattle.parts.specs.Meaning.{at, find-from}
 use Rattle.trie.specs.declared.nodes.Tree.{Tree}
 use Rattle.trie.specs.Strings.{code, codes, beginnings, all-beginnings, different, row-count}
-use Rattle.trie.specs.Trees.{is, Lawful, Lawful-at, Good}
-use Rattle.trie.specs.Shown.{row-of, rows-of, Shown}
+use Rattle.trie.specs.Trees.{Lawful, Lawful-at, Good}
+use Rattle.trie.specs.Shown.{row-of, rows-of}
 use Rattle.trie.proofs.Bitstrings.{same-code, string-pos}
 use Rattle.trie.proofs.Uses.{one-place}
 use Rattle.fields.proofs.Values.{prefix-from-row}

@@ -1,19 +1,17 @@
 -- What set, clear and match answer, from the rows.
-use mathlib.Core.Path.{_≡_, refl, sym, ap, subst, _∙_}
-use mathlib.Core.Logic.{_⊎_, inl, inr, ⊎-elim}
-use mathlib.Core.Bool.{Bool, true, false, cond, _||_}
+use mathlib.Core.Path.{_≡_, refl, sym, ap, _∙_}
+use mathlib.Core.Bool.{Bool, true, false, _||_}
 use mathlib.Core.List.{List, [], _∷_, map}
-use Prim.Native.Nat.{ℕ, zero, suc, _+_, _%_, _^_, _<_, _≤_}
+use Prim.Native.Nat.{ℕ, _+_, _%_, _^_, _<_}
 use native.Mathlib.Omega.{arith}
 use lib.Dec.{eqb, ltb}
-use lib.ListN.{length, getD, set, replicate}
+use lib.ListN.{length, getD, replicate}
 use Rattle.std.proofs.shelf.Lists.{length-map, getD-map, getD-replicate, ext-getD}
-use Rattle.std.proofs.shelf.Tests.{cond-true, cond-false, eq-eqb, eqb-true, both-ways}
+use Rattle.std.proofs.shelf.Tests.{cond-false, eq-eqb, eqb-true, both-ways}
 use Rattle.std.specs.declared.option.Option.{Option}
 use Rattle.std.specs.declared.option.Option.the-variants.{Some, None}
 use Rattle.fields.specs.declared.faults.Fault.{Fault}
 use Rattle.fields.specs.declared.faults.Fault.the-variants.{Label, Full, Elsewhere}
-use Rattle.std.specs.declared.result.Result.{Result}
 use Rattle.std.specs.declared.result.Result.the-variants.{Ok}
 use Rattle.fields.specs.Faults.{when, first-fault, answer}
 use Rattle.fields.specs.declared.prefixes.Prefix.{Prefix}

@@ -1,22 +1,21 @@
 -- The trie that is only a root.
 use mathlib.Core.Path.{_≡_, refl, sym, ap, subst, _∙_}
 use mathlib.Core.Logic.{_⊎_, ⊎-elim}
-use mathlib.Core.List.{List, [], _∷_}
-use mathlib.Core.Bool.{Bool, true, false, cond}
-use Prim.Native.Nat.{ℕ, zero, suc, _+_, _-_, _*_, _/_, _^_, _<_, _≤_}
+use mathlib.Core.List.{List, []}
+use mathlib.Core.Bool.{Bool, cond}
+use Prim.Native.Nat.{ℕ, _+_, _-_, _<_, _≤_}
 use native.Mathlib.Omega.{arith}
-use lib.ListN.{length, getD, set, replicate}
+use lib.ListN.{length, getD, replicate}
 use lib.Dec.{eqb}
 use Rattle.std.proofs.shelf.Lists.{getD-replicate, length-replicate, getD-past}
 use Rattle.std.proofs.shelf.Bits.{shr-le}
 use Rattle.std.proofs.shelf.Tests.{ne-eqb, cases-eq, cases-lt}
 use Rattle.std.specs.declared.option.Option.{Option}
-use Rattle.std.specs.declared.option.Option.the-variants.{Some, None}
+use Rattle.std.specs.declared.option.Option.the-variants.{None}
 use Rattle.fields.specs.declared.prefixes.PrefixRow.{PrefixRow}
 use Rattle.trie.specs.declared.nodes.Node.{Node}
-use Rattle.trie.specs.declared.nodes.Tree.{Tree}
 use Rattle.trie.specs.Strings.{code, codes}
-use Rattle.trie.specs.Trees.{blank, at, child, Whole, Shape, Stack, Named, Listed, Lawful-at, Good, is}
+use Rattle.trie.specs.Trees.{blank, at, child, Shape, Stack, Named, Lawful-at, Good, is}
 use Rattle.trie.proofs.Links.{pick-none}
 
 abbrev first-only : ℕ → ℕ

@@ -1,22 +1,22 @@
 -- A prefix loses its label and then, from the last up, the nodes that nothing needs.
 use mathlib.Core.Path.{_≡_, refl, sym, ap, subst, _∙_}
-use mathlib.Core.Logic.{_⊎_, inl, inr, ⊎-elim, _≢_, ∥∥₁-elim}
+use mathlib.Core.Logic.{_⊎_, inl, inr, ⊎-elim, ∥∥₁-elim}
 use mathlib.Core.Bool.{Bool, true, false, cond, _&&_}
 use mathlib.Core.List.{List, [], _∷_}
-use Prim.Native.Nat.{ℕ, zero, suc, _+_, _-_, _*_, _/_, _%_, _^_, _<_, _≤_}
+use Prim.Native.Nat.{ℕ, _+_, _-_, _*_, _/_, _^_, _<_, _≤_}
 use native.Mathlib.Omega.{arith}
 use native.Mathlib.Bridge.{le-prop}
 use native.Mathlib.Nat.{ℕ-set}
 use lib.Dec.{eqb}
 use lib.ListN.{length, getD, set, length-set}
-use Rattle.std.proofs.shelf.Tests.{cases-eq, cases-lt, eqb-true, eqb-false, eq-eqb, and-parts, and-cases, cond-both}
+use Rattle.std.proofs.shelf.Tests.{cases-lt, eqb-true, eqb-false, eq-eqb, and-parts, and-cases, cond-both}
 use Rattle.std.specs.declared.option.Option.{Option}
 use Rattle.std.specs.declared.option.Option.the-variants.{Some, None}
 use Rattle.fields.specs.declared.prefixes.PrefixRow.{PrefixRow}
 use Rattle.trie.specs.declared.nodes.Node.{Node}
 use Rattle.trie.specs.declared.nodes.Tree.{Tree}
 use Rattle.trie.specs.Strings.{string, bit-after, code, codes, first-strings, beginnings, Among, Begins}
-use Rattle.trie.specs.Trees.{at, child, linked, labelled, is, bare, unlabelled, Lawful, Lawful-at, Frame, Needed, Nearly, Good, Ends, Walked, Trimming}
+use Rattle.trie.specs.Trees.{at, child, linked, labelled, with-node, with-row, pushed, is, bare, unlabelled, Lawful, Lawful-at, Good, Ends, Walked, Trimming}
 use Rattle.trie.proofs.Bitstrings.{shift-none, string-pos, string-shift, bit-below, string-more, same-length, among-strings, strings-among}
 use Rattle.trie.proofs.Counting.{without}
 use Rattle.trie.proofs.Begun.{shorter-begins, parent-begins, own-begins, none-longer, row-at, row-off, lawful-set, begins-off}
@@ -47,7 +47,7 @@ held-depth t row node depth p w held = ⊎-elim
     (λ (ge : row .length ≤ depth). omega (arith, w .within))
     (cases-lt depth (row .length))
 
-pub wiped : (t : Tree) (row : PrefixRow) (path : List ℕ) (node depth p : ℕ) → Walked t row path node depth → p < 96 → getD (t .rows) p None ≡ Some row
+wiped : (t : Tree) (row : PrefixRow) (path : List ℕ) (node depth p : ℕ) → Walked t row path node depth → p < 96 → getD (t .rows) p None ≡ Some row
     → Trimming record { rows = set (t .rows) p None; nodes = set (t .nodes) node (labelled (at (t .nodes) node) None); free = t .free; spare = t .spare } row path (row .length)
 wiped t row path node depth p w lp held =
     let e = w .ends in
@@ -78,7 +78,10 @@ wiped t row path node depth p w lp held =
       passed = λ j lj. w .passed j (omega arith);
     }
 
-pub lawful-prop : (r : PrefixRow) → IsProp (Lawful r)
+pub wiped-as : (t : Tree) (row : PrefixRow) (path : List ℕ) (node depth p : ℕ) (u : Tree) → u ≡ with-node t node (labelled (at (t .nodes) node) None) → Walked t row path node depth → p < 96 → getD (t .rows) p None ≡ Some row → Trimming (with-row u p None) row path (row .length)
+wiped-as t row path node depth p u e w lp held = subst (λ (x : Tree). Trimming (with-row x p None) row path (row .length)) (sym e) (wiped t row path node depth p w lp held)
+
+lawful-prop : (r : PrefixRow) → IsProp (Lawful r)
 lawful-prop r a b = λ i. record { short = le-prop (a .short) (b .short) i; fits = le-prop (a .fits) (b .fits) i; clean = ℕ-set _ _ (a .clean) (b .clean) i }
 
 pub held-lawful : (t : Tree) (row : PrefixRow) (p : ℕ) → ∥ Good t ∥₁ → getD (t .rows) p None ≡ Some row → Lawful row
@@ -246,13 +249,15 @@ module _ (t : Tree) (row : PrefixRow) (path : List ℕ) (k : ℕ) (g : Trimming 
         passed = λ j lj. other j (getD path j 0) (omega arith) (g .passed j (omega arith)) ∙ g .passed j (omega arith);
       }
 
-  pub snipped-as : (m : Node) (x : ℕ) → m ≡ linked (at (t .nodes) i) b 0 → x ≡ n → bare (at (t .nodes) n) ≡ true
-      → Trimming record { rows = t .rows; nodes = set (t .nodes) i m; free = set (t .free) (t .spare) x; spare = t .spare + 1 } row path k
-  snipped-as m x em ex h =
+  -- as it is unlinked and put on the stack
+  pub snipped-as : (x d : ℕ) (u v : Tree) → x ≡ n → d ≡ b → u ≡ with-node t i (linked (at (t .nodes) i) d 0) → v ≡ pushed u x → bare (at (t .nodes) n) ≡ true → Trimming v row path k
+  snipped-as x d u v ex ed eu ev h =
       let q = bare-leaf (at (t .nodes) n) h in
-      subst (λ (y : Node). Trimming record { rows = t .rows; nodes = set (t .nodes) i y; free = set (t .free) (t .spare) x; spare = t .spare + 1 } row path k) (sym em)
-      (subst (λ (y : ℕ). Trimming record { rows = t .rows; nodes = set (t .nodes) i (linked (at (t .nodes) i) b 0); free = set (t .free) (t .spare) y; spare = t .spare + 1 } row path k) (sym ex)
-      (snipped (λ d _. q .1 d) (q .0)))
+      let done : v ≡ pushed (with-node t i (linked (at (t .nodes) i) b 0)) n =
+      ev
+      ∙ ap (λ (y : Tree). pushed y x) (eu ∙ ap (λ (y : ℕ). with-node t i (linked (at (t .nodes) i) y 0)) ed)
+      ∙ ap (pushed (with-node t i (linked (at (t .nodes) i) b 0))) ex in
+      subst (λ (y : Tree). Trimming y row path k) (sym done) (snipped (λ d _. q .1 d) (q .0))
 
   -- a node that is not bare is needed, and so are those above it
   pub kept-as : bare (at (t .nodes) n) ≡ false → Good t

@@ -1,12 +1,11 @@
 -- The nodes in use, and the strings that held prefixes begin with.
-use mathlib.Core.Path.{_≡_, refl, sym, ap, subst, _∙_}
-use mathlib.Core.Logic.{_⊎_, inl, inr, ⊎-elim}
-use mathlib.Core.Bool.{true}
-use mathlib.Core.List.{List, [], _∷_}
-use Prim.Native.Nat.{ℕ, zero, suc, _+_, _-_, _*_, _/_, _^_, _<_, _≤_}
+use mathlib.Core.Path.{_≡_, sym, ap, subst, _∙_}
+use mathlib.Core.Logic.{_⊎_, ⊎-elim}
+use mathlib.Core.List.{List}
+use Prim.Native.Nat.{ℕ, zero, suc, _+_, _-_, _*_, _^_, _<_, _≤_}
 use native.Mathlib.Omega.{arith}
 use native.Mathlib.Numerals.{add-one}
-use lib.Pow.{pow-pos, pow-mono}
+use lib.Pow.{pow-mono}
 use lib.ListN.{length, getD}
 use Rattle.std.proofs.shelf.Tests.{cases-lt, eq-eqb}
 use Rattle.std.specs.declared.option.Option.{Option}
@@ -15,8 +14,8 @@ use Rattle.fields.specs.declared.prefixes.PrefixRow.{PrefixRow}
 use Rattle.trie.specs.declared.nodes.Node.{Node}
 use Rattle.trie.specs.declared.nodes.Tree.{Tree}
 use Rattle.trie.specs.Strings.{string, bit-after, code, codes, beginnings, all-beginnings, row-count, Among}
-use Rattle.trie.specs.Trees.{at, child, is, Whole, Shape, Lawful-at, Good}
-use Rattle.trie.proofs.Bitstrings.{string-pos, string-none, string-more, string-shift, bit-below, doubled, among-strings}
+use Rattle.trie.specs.Trees.{at, child, Whole, Shape, Lawful-at, Good}
+use Rattle.trie.proofs.Bitstrings.{string-pos, string-none, string-more, string-shift, bit-below, among-strings}
 use Rattle.trie.proofs.Counting.{count-different, begins-among, among-begins}
 use Rattle.trie.proofs.Relabelled.{one-label}
 

@@ -1,16 +1,15 @@
 -- The walk of an address down the trie.
 use mathlib.Core.Path.{_≡_, refl, sym, ap, subst, _∙_}
-use mathlib.Core.Logic.{_⊎_, inl, inr, ⊎-elim, _≢_, ∥∥₁-elim}
-use mathlib.Core.List.{List, [], _∷_}
-use mathlib.Core.Bool.{Bool, true, false, cond, _||_, Bool-set}
-use Prim.Native.Nat.{ℕ, zero, suc, _+_, _-_, _*_, _/_, _%_, _^_, _<_, _≤_}
+use mathlib.Core.Logic.{_⊎_, ⊎-elim, ∥∥₁-elim}
+use mathlib.Core.List.{List}
+use mathlib.Core.Bool.{Bool, true, false, _||_, Bool-set}
+use Prim.Native.Nat.{ℕ, zero, suc, _+_, _-_, _*_, _/_, _^_, _<_, _≤_}
 use native.Mathlib.Omega.{arith}
 use native.Mathlib.Bridge.{le-prop}
 use native.Mathlib.Numerals.{add-one}
 use lib.Dec.{eqb}
 use lib.ListN.{length, getD, set, length-set}
-use Rattle.std.proofs.shelf.Bits.{shr-le}
-use Rattle.std.proofs.shelf.Lists.{getD-set-same, getD-set-other, set-past}
+use Rattle.std.proofs.shelf.Lists.{getD-set-same, getD-set-other}
 use Rattle.std.proofs.shelf.Tests.{cases-eq, cases-lt, eq-eqb, ne-eqb}
 use Rattle.std.specs.declared.option.Option.{Option}
 use Rattle.std.specs.declared.option.Option.the-variants.{Some, None}
@@ -18,7 +17,7 @@ use Rattle.fields.specs.declared.prefixes.PrefixRow.{PrefixRow}
 use Rattle.parts.specs.Marks.{mark-found}
 use Rattle.trie.specs.declared.nodes.Tree.{Tree}
 use Rattle.trie.specs.Strings.{string, bit-after, code, codes}
-use Rattle.trie.specs.Trees.{at, child, is, Lawful, Lawful-at, Good, Ends, Walked, covers, hits}
+use Rattle.trie.specs.Trees.{at, child, is, Lawful, Lawful-at, Good, Walked, covers, hits}
 use Rattle.trie.proofs.Bitstrings.{string-pos, string-none, string-more, string-shift, bit-below, same-length}
 
 -- the walk is at the node of the first bits

@@ -1,10 +1,10 @@
 -- What the tables of a trie mean. Which bit string a node stands for is its key, and 0 says that the node is free; keys are not kept in memory.
 use mathlib.Core.Path.{_≡_}
-use mathlib.Core.List.{List, [], _∷_}
+use mathlib.Core.List.{List}
 use mathlib.Core.Bool.{Bool, true, false, cond, _&&_}
 use mathlib.Core.Logic.{_⊎_}
-use Prim.Native.Nat.{ℕ, zero, suc, _+_, _-_, _*_, _/_, _%_, _^_, _<_, _≤_}
-use lib.ListN.{length, getD}
+use Prim.Native.Nat.{ℕ, _+_, _-_, _*_, _/_, _^_, _<_, _≤_}
+use lib.ListN.{length, getD, set}
 use lib.Dec.{eqb}
 use Rattle.std.specs.declared.option.Option.{Option}
 use Rattle.std.specs.declared.option.Option.the-variants.{Some, None}
@@ -95,6 +95,19 @@ pub record Frame (t : Tree) (key : ℕ → ℕ) (ks : List ℕ) : Type 0 where
   pub listed : Listed key ks (t .spare)
   pub size : length (t .rows) ≡ 96
   pub lawful : (l : ℕ) → Lawful-at (getD (t .rows) l None)
+
+-- one step of a change to the tables: a node is written, a place is written, the stack of free nodes gives one up or gets one
+abbrev pub with-node : Tree → ℕ → Node → Tree
+with-node t i n = record { rows = t .rows; nodes = set (t .nodes) i n; free = t .free; spare = t .spare }
+
+abbrev pub with-row : Tree → ℕ → Option PrefixRow → Tree
+with-row t p o = record { rows = set (t .rows) p o; nodes = t .nodes; free = t .free; spare = t .spare }
+
+abbrev pub popped : Tree → Tree
+popped t = record { rows = t .rows; nodes = t .nodes; free = t .free; spare = t .spare - 1 }
+
+abbrev pub pushed : Tree → ℕ → Tree
+pushed t n = record { rows = t .rows; nodes = t .nodes; free = set (t .free) (t .spare) n; spare = t .spare + 1 }
 
 -- each node below the root is needed: some held prefix begins with its string
 abbrev pub Needed : List (Option PrefixRow) → (ℕ → ℕ) → Type 0

@@ -1,11 +1,11 @@
 // Changes to the tables: nodes that are taken for a prefix, and freed when no prefix needs them.
 ghost use mathlib.Core.Path.{_≡_};
 ghost use mathlib.Core.Bool.{true, false};
-ghost use Prim.Native.Nat.{ℕ, _+_, _<_, _≤_};
+ghost use Prim.Native.Nat.{ℕ, _+_, _-_, _<_, _≤_};
 ghost use lib.ListN.{getD, set, replicate};
 ghost use Rattle.std.specs.declared.option.Option.the-variants.{None, Some};
 ghost use Rattle.trie.specs.Strings.{code, codes};
-ghost use Rattle.trie.specs.Trees.{linked, bare, Lawful, Good, Growing, Trimming};
+ghost use Rattle.trie.specs.Trees.{blank, at, linked, labelled, bare, «with-node», popped, pushed, Good, Growing, Trimming};
 use crate::nodes::Node;
 use crate::nodes::Reached;
 use crate::nodes::Tree;
@@ -65,6 +65,57 @@ impl Tree {
         }
     }
 
+    // Takes the free node on top of the stack.
+    fn claim(&mut self) -> u16
+        requires { ⌜ 0 < now self .spare ⌝ ∗ ⌜ now self .spare ≤ 3072 ⌝ }
+        ensures node { λ r. ⌜ r ≡ getD (now (self .entry) .free) (now (self .entry) .spare - 1) 0 ⌝ }
+        ensures left { λ _. ⌜ now (self .exit) ≡ popped (now (self .entry)) ⌝ }
+    {
+        let top = self.spare - 1;
+        self.spare = top;
+        self.free[top]
+    }
+
+    // Puts a node on the stack of free ones.
+    fn release(&mut self, node: u16)
+        requires { ⌜ now self .spare < 3072 ⌝ }
+        ensures { λ _. ⌜ now (self .exit) ≡ pushed (now (self .entry)) node ⌝ }
+    {
+        let top = self.spare;
+        self.free[top] = node;
+        self.spare = top + 1;
+    }
+
+    // Wipes out what a free node had.
+    fn wipe(&mut self, node: u16)
+        requires { ⌜ node < 3073 ⌝ }
+        ensures { λ _. ⌜ now (self .exit) ≡ with-node (now (self .entry)) node blank ⌝ }
+    {
+        self.nodes[node as usize] = Node {
+            label: None,
+            left: 0,
+            right: 0,
+        };
+    }
+
+    // Gives a node a child; 0 takes the child away.
+    fn link(&mut self, parent: usize, bit: u32, child: u16)
+        requires { ⌜ parent < 3073 ⌝ }
+        ensures { λ _. ⌜ now (self .exit) ≡ with-node (now (self .entry)) parent (linked (at (now (self .entry) .nodes) parent) bit child) ⌝ }
+    {
+        let node = self.nodes[parent];
+        self.nodes[parent] = with_child(node, bit, child);
+    }
+
+    fn relabel(&mut self, node: usize, label: Option<u8>)
+        requires { ⌜ node < 3073 ⌝ }
+        ensures { λ _. ⌜ now (self .exit) ≡ with-node (now (self .entry)) node (labelled (at (now (self .entry) .nodes) node) label) ⌝ }
+    {
+        let mut changed = self.nodes[node];
+        changed.label = label;
+        self.nodes[node] = changed;
+    }
+
     // Takes a free node for the next bit of a prefix.
     fn extend(&mut self, parent: usize, row: PrefixRow, depth: u8) -> usize
         requires within { ⌜ depth < row .length ⌝ }
@@ -72,16 +123,9 @@ impl Tree {
         ensures rows { λ _. ⌜ now (self .exit) .rows ≡ now (self .entry) .rows ⌝ }
         ensures growing { λ r. ⌜ ∥ Growing (now (self .exit)) row r (depth + 1) ∥₁ ⌝ }
     {
-        let above = self.nodes[parent];
-        let top = self.spare - 1;
-        let node = self.free[top];
-        self.nodes[node as usize] = Node {
-            label: None,
-            left: 0,
-            right: 0,
-        };
-        self.nodes[parent] = with_child(above, bit_after(row.address, depth), node);
-        self.spare = top;
+        let node = self.claim();
+        self.wipe(node);
+        self.link(parent, bit_after(row.address, depth), node);
         node as usize
     }
 
@@ -109,9 +153,7 @@ impl Tree {
         ensures rows { λ _. ⌜ now (self .exit) .rows ≡ set (now (self .entry) .rows) place (Some row) ⌝ }
     {
         let last = self.grow(row, end);
-        let mut node = self.nodes[last];
-        node.label = Some(place);
-        self.nodes[last] = node;
+        self.relabel(last, Some(place));
         self.rows[place as usize] = Some(row);
     }
 
@@ -124,17 +166,13 @@ impl Tree {
         ensures kept { λ r. ⌜ (r ≡ false → ∥ Good (now (self .exit)) ∥₁) ⌝ }
     {
         let parent = path[depth as usize] as usize;
-        let above = self.nodes[parent];
         let bit = bit_after(row.address, depth);
-        let last = child_at(above, bit);
-        let node = self.nodes[last];
-        if !is_bare(node) {
+        let last = child_at(self.nodes[parent], bit);
+        if !is_bare(self.nodes[last]) {
             return false;
         }
-        self.nodes[parent] = with_child(above, bit, 0);
-        let top = self.spare;
-        self.free[top] = last as u16;
-        self.spare = top + 1;
+        self.link(parent, bit, 0);
+        self.release(last as u16);
         true
     }
 
@@ -161,9 +199,7 @@ impl Tree {
     {
         let mut path = [0; 32];
         let end = self.seek(row, &mut path);
-        let mut node = self.nodes[end.node];
-        node.label = None;
-        self.nodes[end.node] = node;
+        self.relabel(end.node, None);
         self.rows[place as usize] = None;
         self.trim(&path, row);
     }

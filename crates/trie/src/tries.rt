@@ -51,7 +51,8 @@ impl Trie {
     pub fn asked_number(&self) -> u32
         ensures { λ r. ⌜ ((m : Meaning Prefix) → Shown (now (self .entry) .tree .rows) (now (self .entry) .asked) m → r ≡ m .asked) ⌝ }
     {
-        self.asked
+        let Trie { asked, .. } = self;
+        *asked
     }
 }
 
@@ -63,8 +64,7 @@ pub impl Told<Prefix> for Trie as TrieTold {
     ghost agrees = { λ s l. Agrees (s .asked) l };
 
     fn empty(&mut self) {
-        self.tree = Tree::bare();
-        self.asked = 0;
+        *self = Trie::new();
     }
 
     fn set(&mut self, place: u8, value: Prefix) -> Result<(), Fault> {

@@ -1,9 +1,9 @@
 // Walks from the root towards an address, one bit a step.
 ghost use mathlib.Core.Path.{_≡_};
 ghost use mathlib.Core.Bool.{false, _||_};
-ghost use Prim.Native.Nat.{ℕ, _<_, _≤_};
+ghost use Prim.Native.Nat.{ℕ, _-_, _<_, _≤_};
 ghost use lib.ListN.{getD};
-ghost use Rattle.trie.specs.Strings.{«bit-after», code, codes, «row-count»};
+ghost use Rattle.trie.specs.Strings.{«bit-after», code, codes};
 ghost use lib.Dec.{eqb};
 ghost use Rattle.std.specs.declared.option.Option.the-variants.{Some};
 ghost use Rattle.trie.specs.Trees.{child, is, hits, Lawful, Good, Walked, Ends};
@@ -32,11 +32,10 @@ pub fn child_at(node: Node, bit: u32) -> usize
 }
 
 impl Tree {
-    // How many nodes below the root are in use.
+    // How many nodes below the root are not free.
     pub fn in_use(&self) -> usize
-        requires { ⌜ ∥ Good (now self) ∥₁ ⌝ }
-        ensures exactly { λ r. ⌜ r ≡ row-count (now (self .entry) .rows) ⌝ }
-        ensures few { λ r. ⌜ r ≤ 3072 ⌝ }
+        requires { ⌜ now self .spare ≤ 3072 ⌝ }
+        ensures { λ r. ⌜ r ≡ 3072 - now (self .entry) .spare ⌝ }
     {
         3072 - self.spare
     }

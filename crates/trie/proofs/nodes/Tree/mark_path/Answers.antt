@@ -1,16 +1,12 @@
-use mathlib.Core.Path.{_≡_, refl, sym, ap, subst, _∙_}
+use mathlib.Core.Path.{_≡_, sym, ap, _∙_}
 use mathlib.Core.Logic.{∥∥₁-elim, ∥∥₁-map}
-use Prim.Native.Nat.{ℕ, _+_, _-_, _<_, _≤_}
+use Prim.Native.Nat.{ℕ, _+_, _-_, _<_}
 use native.Mathlib.Omega.{arith}
-use native.Mathlib.Bridge.{le-prop}
 use lib.ListN.{length, getD}
-use mathlib.Core.Bool.{Bool, true, false, _||_, Bool-set}
-use mathlib.Core.List.{List}
-use Rattle.std.proofs.shelf.Lists.{length-set}
-use Rattle.parts.specs.Marks.{mark-found}
+use mathlib.Core.Bool.{Bool, false, _||_, Bool-set}
 use Rattle.trie.specs.Strings.{bit-after, codes}
-use Rattle.trie.specs.Trees.{at, child, hits}
-use Rattle.trie.proofs.Walks.{Standing, inside, at-root, stands-on, met, met-none, marks-on, found-length, stops, all-met}
+use Rattle.trie.specs.Trees.{at, child}
+use Rattle.trie.proofs.Walks.{inside, at-root, stands-on, met, met-none, marks-on, found-length, stops, all-met}
 use Rattle.trie.proofs.nodes.Tree.mark_path.Needs as need
 
 pub loop-depth-holds : need.loop-depth-holds

@@ -1,12 +1,11 @@
-use mathlib.Core.Path.{_≡_, refl, sym, ap, subst, _∙_}
-use mathlib.Core.Logic.{∥∥₁-elim, ∥∥₁-map}
-use Prim.Native.Nat.{ℕ, _+_, _-_, _<_, _≤_}
+use mathlib.Core.Path.{_≡_, sym, ap, subst, _∙_}
+use mathlib.Core.Logic.{∥∥₁-map}
+use Prim.Native.Nat.{_-_, _<_}
 use native.Mathlib.Omega.{arith}
-use native.Mathlib.Bridge.{le-prop}
-use lib.ListN.{length, getD, length-set}
+use lib.ListN.{length, length-set}
 use Rattle.trie.specs.Strings.{bit-after}
 use Rattle.trie.specs.Trees.{at, child}
-use Rattle.trie.proofs.Walks.{Standing, Walking, inside, at-root, walks-on, walked}
+use Rattle.trie.proofs.Walks.{Walking, inside, at-root, walks-on, walked}
 use Rattle.trie.proofs.nodes.Tree.seek.Needs as need
 
 pub loop-depth-holds : need.loop-depth-holds

@@ -1,9 +1,7 @@
-use mathlib.Core.Path.{_≡_, refl, sym, ap, subst, _∙_}
-use mathlib.Core.Logic.{∥∥₁-elim, ∥∥₁-map}
-use Prim.Native.Nat.{ℕ, _+_, _-_, _<_, _≤_}
+use mathlib.Core.Path.{_≡_, subst}
+use mathlib.Core.Logic.{∥∥₁-map}
+use Prim.Native.Nat.{_-_}
 use native.Mathlib.Omega.{arith}
-use native.Mathlib.Bridge.{le-prop}
-use lib.ListN.{length, getD}
 use Rattle.trie.specs.Trees.{Trimming}
 use Rattle.trie.proofs.Trimmed.{trimmed}
 use Rattle.trie.proofs.nodes.Tree.trim.Needs as need

@@ -1,32 +1,25 @@
-use mathlib.Core.Path.{_≡_, refl, sym, ap, subst, _∙_}
-use mathlib.Core.Logic.{∥∥₁-elim, ∥∥₁-map}
-use mathlib.Core.Bool.{Bool, true, false}
+use mathlib.Core.Path.{_≡_, sym, ap, subst, _∙_}
 use mathlib.Core.List.{List}
-use Prim.Native.Nat.{ℕ, _+_, _%_, _^_, _<_, _≤_}
+use Prim.Native.Nat.{ℕ, _+_, _%_, _^_}
 use native.Mathlib.Omega.{arith}
-use native.Mathlib.Bridge.{le-prop}
 use lib.Dec.{ltb}
-use lib.ListN.{length, getD, set}
-use Rattle.std.proofs.shelf.Tests.{le-ltb, lt-ltb, cond-true, cond-false}
+use lib.ListN.{length}
+use Rattle.std.proofs.shelf.Tests.{lt-ltb, cond-true}
 use Rattle.std.specs.declared.option.Option.{Option}
 use Rattle.std.specs.declared.option.Option.the-variants.{Some, None}
-use Rattle.std.specs.declared.result.Result.{Result}
-use Rattle.std.specs.declared.result.Result.the-variants.{Ok, Err}
 use Rattle.fields.specs.declared.faults.Fault.{Fault}
-use Rattle.fields.specs.declared.faults.Fault.the-variants.{Label, Full, Elsewhere, Vacant}
 use Rattle.fields.specs.declared.prefixes.Prefix.{Prefix}
-use Rattle.fields.specs.declared.prefixes.PrefixRow.{PrefixRow}
 use Rattle.fields.specs.Faults.{answer, unless}
-use Rattle.parts.specs.Meaning.{Meaning, set-fault, put, taken, cleared, after-clear}
-use Rattle.trie.specs.Shown.{row-of, rows-of, Shown}
+use Rattle.parts.specs.Meaning.{Meaning}
+use Rattle.trie.specs.Shown.{Shown}
 use borrow.Author.Needs.{needs}
-use mathlib.Core.List.{[], _∷_, _++_}
+use mathlib.Core.List.{[], _∷_}
 use lib.ListN.{length-append}
 use native.Mathlib.Nat.{mod-lt}
 use Rattle.fields.specs.Prefixes.{prefix-takes}
 use Rattle.fields.specs.declared.faults.Fault.the-variants.{Short}
 use Rattle.parts.specs.Meaning.{list-fault, asked-once}
-use Rattle.parts.specs.Marks.{hit, marked, labels-of, over-start}
+use Rattle.parts.specs.Marks.{marked, labels-of, over-start}
 use Rattle.trie.proofs.Meant.{size-from}
 use Rattle.trie.proofs.Placed.{marks-from, answered, counts-on}
 use Rattle.trie.proofs.tries.TrieEngine.matches.Needs as need

@@ -1,24 +1,19 @@
-use mathlib.Core.Path.{_≡_, refl, sym, ap, subst, _∙_}
-use mathlib.Core.Logic.{∥∥₁-elim, ∥∥₁-map}
-use mathlib.Core.Bool.{Bool, true, false}
+use mathlib.Core.Path.{_≡_, refl, sym, ap, _∙_}
+use mathlib.Core.Bool.{false}
 use mathlib.Core.List.{List}
-use Prim.Native.Nat.{ℕ, _+_, _%_, _^_, _<_, _≤_}
+use Prim.Native.Nat.{ℕ}
 use native.Mathlib.Omega.{arith}
-use native.Mathlib.Bridge.{le-prop}
 use lib.Dec.{ltb}
 use lib.ListN.{length, getD, set}
 use Rattle.std.proofs.shelf.Tests.{le-ltb, lt-ltb, cond-true, cond-false}
 use Rattle.std.specs.declared.option.Option.{Option}
 use Rattle.std.specs.declared.option.Option.the-variants.{Some, None}
-use Rattle.std.specs.declared.result.Result.{Result}
-use Rattle.std.specs.declared.result.Result.the-variants.{Ok, Err}
-use Rattle.fields.specs.declared.faults.Fault.{Fault}
-use Rattle.fields.specs.declared.faults.Fault.the-variants.{Label, Full, Elsewhere, Vacant}
+use Rattle.std.specs.declared.result.Result.the-variants.{Err}
+use Rattle.fields.specs.declared.faults.Fault.the-variants.{Label}
 use Rattle.fields.specs.declared.prefixes.Prefix.{Prefix}
 use Rattle.fields.specs.declared.prefixes.PrefixRow.{PrefixRow}
-use Rattle.fields.specs.Faults.{answer, unless}
-use Rattle.parts.specs.Meaning.{Meaning, set-fault, put, taken, cleared, after-clear}
-use Rattle.trie.specs.Shown.{row-of, rows-of, Shown}
+use Rattle.parts.specs.Meaning.{Meaning, taken}
+use Rattle.trie.specs.Shown.{rows-of, Shown}
 use Rattle.std.proofs.shelf.Lists.{set-past, set-getD}
 use Rattle.trie.proofs.Meant.{rows-at, none-from, some-from, map-rows-set, size-from}
 use Rattle.trie.proofs.tries.TrieTold.clear.Needs as need

@@ -1,24 +1,22 @@
 use mathlib.Core.Path.{_≡_, refl, sym, ap, subst, _∙_}
 use mathlib.Core.Logic.{∥∥₁-elim, ∥∥₁-map}
-use mathlib.Core.Bool.{Bool, true, false}
+use mathlib.Core.Bool.{false}
 use mathlib.Core.List.{List}
-use Prim.Native.Nat.{ℕ, _+_, _%_, _^_, _<_, _≤_}
+use Prim.Native.Nat.{ℕ, _<_}
 use native.Mathlib.Omega.{arith}
 use native.Mathlib.Bridge.{le-prop}
 use lib.Dec.{ltb}
-use lib.ListN.{length, getD, set}
-use Rattle.std.proofs.shelf.Tests.{le-ltb, lt-ltb, cond-true, cond-false}
+use lib.ListN.{set}
+use Rattle.std.proofs.shelf.Tests.{le-ltb}
 use Rattle.std.specs.declared.option.Option.{Option}
 use Rattle.std.specs.declared.option.Option.the-variants.{Some, None}
-use Rattle.std.specs.declared.result.Result.{Result}
-use Rattle.std.specs.declared.result.Result.the-variants.{Ok, Err}
 use Rattle.fields.specs.declared.faults.Fault.{Fault}
-use Rattle.fields.specs.declared.faults.Fault.the-variants.{Label, Full, Elsewhere, Vacant}
+use Rattle.fields.specs.declared.faults.Fault.the-variants.{Full, Elsewhere}
 use Rattle.fields.specs.declared.prefixes.Prefix.{Prefix}
 use Rattle.fields.specs.declared.prefixes.PrefixRow.{PrefixRow}
 use Rattle.fields.specs.Faults.{answer, unless}
-use Rattle.parts.specs.Meaning.{Meaning, set-fault, put, taken, cleared, after-clear}
-use Rattle.trie.specs.Shown.{row-of, rows-of, Shown}
+use Rattle.parts.specs.Meaning.{Meaning, set-fault, put}
+use Rattle.trie.specs.Shown.{rows-of, Shown}
 use Rattle.trie.proofs.Growth.{starts}
 use Rattle.trie.proofs.Meant.{map-rows-set}
 use Rattle.trie.proofs.Placed.{equal, no-labels, fault-full, fault-elsewhere, fault-none, full-from, vacant-from, new-from, found-none, found-some}
@@ -58,13 +56,12 @@ returns-in-Some-holder c =
 
 pub put-requires : need.put-requires
 put-requires c κs =
-    let t = c .args .self .now .tree in
     let lp : c .args .place < 96 = omega arith in
     record {
       within = (lp, ∥∥₁-elim (c .seek-end .ensures) le-prop (λ w. w .ends .within));
-      growing = ∥∥₁-map (c .seek-end .ensures) (λ w. starts t (c .row-row .result) (c .seek-end .result .node) (c .seek-end .result .depth) (c .args .place) (w .ends) lp (c .in-rest .is));
+      growing = ∥∥₁-map (c .seek-end .ensures) (λ w. starts (c .args .self .now .tree) (c .row-row .result) (c .seek-end .result .node) (c .seek-end .result .depth) (c .args .place) (w .ends) lp (c .in-rest .is));
       vacant = c .in-rest .is;
-      new = new-from (t .rows) (c .args .value) (c .row-row .result) (c .row-row .ensures) (c .holder .result) (c .holder .ensures) (c .in-rest-holder .is);
+      new = new-from (c .args .self .now .tree .rows) (c .args .value) (c .row-row .result) (c .row-row .ensures) (c .holder .result) (c .holder .ensures) (c .in-rest-holder .is);
     }
 
 pub returns : need.returns

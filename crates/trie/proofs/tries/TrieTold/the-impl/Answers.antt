@@ -1,4 +1,4 @@
-use mathlib.Core.Path.{_≡_, sym, subst}
+use mathlib.Core.Path.{subst}
 use Prim.Native.Nat.{ℕ, _^_, _<_}
 use Rattle.trie.proofs.Meant.{size-from, single-from}
 use Rattle.trie.proofs.tries.TrieTold.the-impl.Needs as need
