@@ -1,5 +1,7 @@
-// Lines into questions: `prefix VALUE NUMBER` and its like, and `order` with six numbers.
+// Lines into questions: `prefix VALUE NUMBER` and its like, `order` with six numbers, and `filter` with six values and six numbers.
+use crate::questions::Numbers;
 use crate::questions::Question;
+use crate::questions::Values;
 use fields::orders::FIELDS;
 use words::cuts::cut;
 use words::decimals::read_u8;
@@ -15,6 +17,7 @@ pub fn read_question(line: &[u8]) -> Option<Question> {
     let (kind, rest) = cut(line, b' ')?;
     match kind {
         b"order" => read_order(rest),
+        b"filter" => read_filter(rest),
         _ => read_taking(kind, rest),
     }
 }
@@ -40,4 +43,39 @@ fn read_order(text: &[u8]) -> Option<Question> {
     }
     fields[FIELDS - 1] = read_u8(rest)?;
     Some(Question::OfOrder(fields))
+}
+
+fn read_filter(text: &[u8]) -> Option<Question> {
+    let (source, rest) = cut(text, b' ')?;
+    let (destination, rest) = cut(rest, b' ')?;
+    let (source_port, rest) = cut(rest, b' ')?;
+    let (destination_port, rest) = cut(rest, b' ')?;
+    let (protocol, rest) = cut(rest, b' ')?;
+    let (flags, numbers) = cut(rest, b' ')?;
+    let values = Values {
+        source: read_prefix(source)?,
+        destination: read_prefix(destination)?,
+        source_port: read_range(source_port)?,
+        destination_port: read_range(destination_port)?,
+        protocol: read_protocol(protocol)?,
+        flags: read_flag_mask(flags)?,
+    };
+    let numbers = read_numbers(numbers)?;
+    Some(Question::OfFilter(values, numbers))
+}
+
+fn read_numbers(text: &[u8]) -> Option<Numbers> {
+    let (source, rest) = cut(text, b' ')?;
+    let (destination, rest) = cut(rest, b' ')?;
+    let (source_port, rest) = cut(rest, b' ')?;
+    let (destination_port, rest) = cut(rest, b' ')?;
+    let (protocol, flags) = cut(rest, b' ')?;
+    Some(Numbers {
+        source: read_address(source)?,
+        destination: read_address(destination)?,
+        source_port: read_u16(source_port)?,
+        destination_port: read_u16(destination_port)?,
+        protocol: read_u8(protocol)?,
+        flags: read_flags(flags)?,
+    })
 }
