@@ -1,7 +1,6 @@
 // Lines into questions: `prefix VALUE NUMBER` and its like, `order` with six numbers, and `filter` with six values and six numbers.
-use crate::questions::Numbers;
+use crate::questions::Line;
 use crate::questions::Question;
-use crate::questions::Values;
 use fields::orders::FIELDS;
 use words::cuts::cut;
 use words::decimals::read_u8;
@@ -13,7 +12,7 @@ use words::values::read_prefix;
 use words::values::read_protocol;
 use words::values::read_range;
 
-pub fn read_question(line: &[u8]) -> Option<Question> {
+pub fn read_line(line: &[u8]) -> Option<Line> {
     let (kind, rest) = cut(line, b' ')?;
     match kind {
         b"order" => read_order(rest),
@@ -22,8 +21,13 @@ pub fn read_question(line: &[u8]) -> Option<Question> {
     }
 }
 
-fn read_taking(kind: &[u8], rest: &[u8]) -> Option<Question> {
+fn read_taking(kind: &[u8], rest: &[u8]) -> Option<Line> {
     let (value, number) = cut(rest, b' ')?;
+    let question = of_kind(kind, value, number)?;
+    Some(Line::One(question))
+}
+
+fn of_kind(kind: &[u8], value: &[u8], number: &[u8]) -> Option<Question> {
     match kind {
         b"prefix" => Some(Question::OfPrefix(read_prefix(value)?, read_address(number)?)),
         b"range" => Some(Question::OfRange(read_range(value)?, read_u16(number)?)),
@@ -33,7 +37,7 @@ fn read_taking(kind: &[u8], rest: &[u8]) -> Option<Question> {
     }
 }
 
-fn read_order(text: &[u8]) -> Option<Question> {
+fn read_order(text: &[u8]) -> Option<Line> {
     let mut fields = [0; FIELDS];
     let mut rest = text;
     for i in 0..FIELDS - 1 {
@@ -42,40 +46,28 @@ fn read_order(text: &[u8]) -> Option<Question> {
         rest = behind;
     }
     fields[FIELDS - 1] = read_u8(rest)?;
-    Some(Question::OfOrder(fields))
+    Some(Line::One(Question::OfOrder(fields)))
 }
 
-fn read_filter(text: &[u8]) -> Option<Question> {
+// Six values, and then six numbers.
+fn read_filter(text: &[u8]) -> Option<Line> {
     let (source, rest) = cut(text, b' ')?;
     let (destination, rest) = cut(rest, b' ')?;
     let (source_port, rest) = cut(rest, b' ')?;
     let (destination_port, rest) = cut(rest, b' ')?;
     let (protocol, rest) = cut(rest, b' ')?;
     let (flags, numbers) = cut(rest, b' ')?;
-    let values = Values {
-        source: read_prefix(source)?,
-        destination: read_prefix(destination)?,
-        source_port: read_range(source_port)?,
-        destination_port: read_range(destination_port)?,
-        protocol: read_protocol(protocol)?,
-        flags: read_flag_mask(flags)?,
-    };
-    let numbers = read_numbers(numbers)?;
-    Some(Question::OfFilter(values, numbers))
-}
-
-fn read_numbers(text: &[u8]) -> Option<Numbers> {
-    let (source, rest) = cut(text, b' ')?;
-    let (destination, rest) = cut(rest, b' ')?;
-    let (source_port, rest) = cut(rest, b' ')?;
-    let (destination_port, rest) = cut(rest, b' ')?;
-    let (protocol, flags) = cut(rest, b' ')?;
-    Some(Numbers {
-        source: read_address(source)?,
-        destination: read_address(destination)?,
-        source_port: read_u16(source_port)?,
-        destination_port: read_u16(destination_port)?,
-        protocol: read_u8(protocol)?,
-        flags: read_flags(flags)?,
-    })
+    let (first, numbers) = cut(numbers, b' ')?;
+    let (second, numbers) = cut(numbers, b' ')?;
+    let (third, numbers) = cut(numbers, b' ')?;
+    let (fourth, numbers) = cut(numbers, b' ')?;
+    let (fifth, sixth) = cut(numbers, b' ')?;
+    Some(Line::Filter([
+        of_kind(b"prefix", source, first)?,
+        of_kind(b"prefix", destination, second)?,
+        of_kind(b"range", source_port, third)?,
+        of_kind(b"range", destination_port, fourth)?,
+        of_kind(b"protocol", protocol, fifth)?,
+        of_kind(b"flags", flags, sixth)?,
+    ]))
 }

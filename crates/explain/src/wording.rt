@@ -1,7 +1,5 @@
 // Sentences that a person can read.
-use crate::questions::Numbers;
 use crate::questions::Question;
-use crate::questions::Values;
 use fields::faults::Fault;
 use fields::flags::FlagRow;
 use fields::orders::FIELDS;
@@ -27,17 +25,20 @@ pub struct Said {
     pub text: String,
 }
 
-// What is said of a line; a line that is no question is refused.
-pub fn explanation(heap: Global, question: Option<Question>) -> Result<Said, AllocError> {
+// What is said of a question.
+pub fn explanation(heap: Global, question: Question) -> Result<Said, AllocError> {
     match question {
-        None => of_fault(heap, Fault::Line),
-        Some(Question::OfPrefix(row, number)) => of_prefix(heap, row, number),
-        Some(Question::OfRange(row, number)) => of_range(heap, row, number),
-        Some(Question::OfProtocol(row, number)) => of_protocol(heap, row, number),
-        Some(Question::OfFlags(row, number)) => of_flags(heap, row, number),
-        Some(Question::OfOrder(fields)) => of_order(heap, fields),
-        Some(Question::OfFilter(values, numbers)) => of_filter(heap, values, numbers),
+        Question::OfPrefix(row, number) => of_prefix(heap, row, number),
+        Question::OfRange(row, number) => of_range(heap, row, number),
+        Question::OfProtocol(row, number) => of_protocol(heap, row, number),
+        Question::OfFlags(row, number) => of_flags(heap, row, number),
+        Question::OfOrder(fields) => of_order(heap, fields),
     }
+}
+
+// What is said of a line that asks nothing.
+pub fn unreadable(heap: Global) -> Result<Said, AllocError> {
+    of_fault(heap, Fault::Line)
 }
 
 fn of_prefix(heap: Global, row: PrefixRow, number: u32) -> Result<Said, AllocError> {
@@ -145,35 +146,6 @@ fn of_order(heap: Global, fields: [u8; FIELDS]) -> Result<Said, AllocError> {
                 "order {a} {b} {c} {d} {e} {f} is formed: it names each field once"
             )?,
         ),
-    }
-}
-
-// Field by field, and then whether the filter matches; the first value that is refused refuses the filter.
-fn of_filter(heap: Global, values: Values, numbers: Numbers) -> Result<Said, AllocError> {
-    let mut all = Said { outcome: Outcome::Taken, text: String::new(heap) };
-    all = after_field(heap, all, 1, of_prefix(heap, values.source, numbers.source)?)?;
-    all = after_field(heap, all, 2, of_prefix(heap, values.destination, numbers.destination)?)?;
-    all = after_field(heap, all, 3, of_range(heap, values.source_port, numbers.source_port)?)?;
-    all = after_field(heap, all, 4, of_range(heap, values.destination_port, numbers.destination_port)?)?;
-    all = after_field(heap, all, 5, of_protocol(heap, values.protocol, numbers.protocol)?)?;
-    all = after_field(heap, all, 6, of_flags(heap, values.flags, numbers.flags)?)?;
-    let text = all.text;
-    match all.outcome {
-        Outcome::Taken => taken(format!(heap, "{text}the filter matches: every value takes its number")?),
-        Outcome::NotTaken => not_taken(format!(heap, "{text}the filter does not match")?),
-        Outcome::Refused => Ok(Said { outcome: Outcome::Refused, text }),
-    }
-}
-
-// What was said so far, with one field more.
-fn after_field(heap: Global, so_far: Said, field: u8, said: Said) -> Result<Said, AllocError> {
-    let before = so_far.text;
-    let text = said.text;
-    match (so_far.outcome, said.outcome) {
-        (Outcome::Refused, _) => Ok(Said { outcome: Outcome::Refused, text: before }),
-        (_, Outcome::Refused) => Ok(Said { outcome: Outcome::Refused, text }),
-        (Outcome::Taken, Outcome::Taken) => taken(format!(heap, "{before}field {field}: {text}\n")?),
-        _ => not_taken(format!(heap, "{before}field {field}: {text}\n")?),
     }
 }
 
