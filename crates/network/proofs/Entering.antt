@@ -19,8 +19,7 @@ use Rattle.parts.specs.Meaning.{Meaning, label-fault}
 use Rattle.stores.specs.declared.pairs.Pair.{Pair}
 use Rattle.stores.specs.Pairs.{pair, same-pair}
 use Rattle.labelling.specs.declared.board.Board.{Board}
-use Rattle.labelling.specs.Boards.{Stands}
-use Rattle.network.specs.Products.{Labels}
+use Rattle.labelling.specs.Boards.{Stands, Labels}
 use Rattle.network.specs.Nodes.{Filed, filed, key-at, at-node, Nodes, unused, fresh, arranged, Untold, Asks-kept}
 
 pub replicate-below : (n x i : ℕ) → x ≤ 95 → getD (replicate n x) i 0 ≤ 95

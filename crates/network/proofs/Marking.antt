@@ -17,7 +17,8 @@ use Rattle.parts.specs.Marks.{mark-found, hit}
 use Rattle.stores.specs.declared.pairs.Pair.{Pair}
 use Rattle.stores.specs.Pairs.{pair, same-pair}
 use Rattle.stores.proofs.Alike.{pair-decides}
-use Rattle.network.specs.Products.{row, product, member, both-found, marks-after}
+use Rattle.labelling.specs.Boards.{member}
+use Rattle.network.specs.Products.{row, product, both-found, marks-after}
 
 abbrev either : Bool → Bool → Bool
 either b c = cond b true c

@@ -1,7 +1,7 @@
 -- A filter's label at a node is found exactly if its labels in the fields up to it are.
 use mathlib.Core.Path.{_≡_, refl, sym, ap, subst, _∙_}
 use mathlib.Core.Logic.{_⊎_, inl, inr, ⊎-elim, _≢_}
-use mathlib.Core.Bool.{Bool, true, false, cond, _&&_}
+use mathlib.Core.Bool.{Bool, true, false, cond, _&&_, _||_}
 use mathlib.Core.List.{List, [], _∷_, _++_, map}
 use Prim.Native.Nat.{ℕ, zero, suc, _+_, _-_, _*_, _<_, _≤_}
 use native.Mathlib.Omega.{arith}
@@ -23,42 +23,12 @@ use Rattle.stores.specs.declared.pairs.Pair.{Pair}
 use Rattle.stores.specs.Pairs.{pair, same-pair}
 use Rattle.stores.proofs.Alike.{pair-decides}
 use Rattle.labelling.specs.declared.board.Board.{Board}
-use Rattle.network.specs.Products.{member, both-found}
-use Rattle.network.specs.Nodes.{Filed, key-at, at-node, First, Nodes, Alike, One-label}
-use Rattle.network.specs.Searches.{reached, all-found, places-of}
-
-not-before : (l i : ℕ) (ms : List Bool) → l < i → member l (marked-from i ms) ≡ false
-not-before l i [] h = refl
-not-before l i (true ∷ ms) h = rw (ne-eqb i l (omega arith)) (not-before l (i + 1) ms (omega arith))
-not-before l i (false ∷ ms) h = not-before l (i + 1) ms (omega arith)
-
-member-from : (l i : ℕ) (ms : List Bool) → member (i + l) (marked-from i ms) ≡ getD ms l false
-member-from l i [] = refl
-member-from zero i (true ∷ ms) = rw (eq-eqb i (i + 0) (omega arith))
-member-from zero i (false ∷ ms) = not-before (i + 0) (i + 1) ms (omega arith)
-member-from (suc l) i (true ∷ ms) =
-    let e : (i + 1) + l ≡ i + suc l = omega arith in
-    rw (ne-eqb i (i + suc l) (omega arith)) (subst (λ (n : ℕ). member n (marked-from (i + 1) ms) ≡ getD ms l false) e (member-from l (i + 1) ms))
-member-from (suc l) i (false ∷ ms) =
-    let e : (i + 1) + l ≡ i + suc l = omega arith in
-    subst (λ (n : ℕ). member n (marked-from (i + 1) ms) ≡ getD ms l false) e (member-from l (i + 1) ms)
-
--- a label is among those that are marked exactly if it is marked
-member-marked : (l : ℕ) (ms : List Bool) → member l (marked ms) ≡ getD ms l false
-member-marked l ms = let e : 0 + l ≡ l = omega arith in subst (λ (n : ℕ). member n (marked ms) ≡ getD ms l false) e (member-from l 0 ms)
-
-test-at : {X : Type 0} (p : X → Bool) (xs : List (Option X)) (l : ℕ) → getD (map (hit p) xs) l false ≡ hit p (getD xs l None)
-test-at p [] l = refl
-test-at p (x ∷ xs) zero = refl
-test-at p (x ∷ xs) (suc l) = test-at p xs l
-
--- the label of a value that its place holds is listed exactly if the value passes
-pub held-tested : {X : Type 0} (eq : X → X → Bool) (law : (a b : X) → Decides (eq a b) (a ≡ b)) (p : X → Bool) (xs : List (Option X)) (l : ℕ) (v : X) → at eq v (getD xs l None) ≡ true → member l (labels-of p xs) ≡ p v
-held-tested {X} eq law p xs l v h = member-marked l (map (hit p) xs) ∙ test-at p xs l ∙ same (getD xs l None) h
-  where
-    same : (o : Option X) → at eq v o ≡ true → hit p o ≡ p v
-    same None e = absurd (both-ways false refl e)
-    same (Some w) e = ap p (sym (law v w .0 e))
+use Rattle.labelling.specs.Boards.{member}
+use Rattle.filters.specs.Counting.{some, different}
+use Rattle.labelling.proofs.Listed.{held-tested, found-different}
+use Rattle.network.specs.Products.{both-found}
+use Rattle.network.specs.Nodes.{Filed, key-at, at-node, First, Nodes, alike, One-label}
+use Rattle.network.specs.Searches.{reached, all-found, places-of, pairs, rows-found, pairs-by-rows}
 
 -- one place holds one value
 at-one : {X : Type 0} (eq : X → X → Bool) (law : (a b : X) → Decides (eq a b) (a ≡ b)) (a b : X) (o : Option X) → at eq a o ≡ true → at eq b o ≡ true → a ≡ b
@@ -80,32 +50,37 @@ module _ (places : ℕ → List (Option Pair)) where
       ∙ held-tested same-pair pair-decides (both-found (reached places found n) (found (n + 1))) (places n) (getD (f .along) (n + 1) 0) (key-at n f) (holds n (omega arith))
       ∙ ap (λ (b : Bool). b && member (getD (f .fields) (n + 1) 0) (found (n + 1))) before
 
-  -- two filters have one label at a node exactly if they have the same labels in all fields up to it
-  pub one-label : (single : (n i j : ℕ) (k : Pair) → at same-pair k (getD (places n) i None) ≡ true → at same-pair k (getD (places n) j None) ≡ true → i ≡ j)
-      (f g : Filed) → First f → First g → (n : ℕ) → ((j : ℕ) → j < n → Holds j f) → ((j : ℕ) → j < n → Holds j g)
-      → (getD (f .along) n 0 ≡ getD (g .along) n 0 → Alike f g n) × (Alike f g n → getD (f .along) n 0 ≡ getD (g .along) n 0)
-  one-label single f g ff gg zero hf hg =
-      (λ e j l. let z : j ≡ 0 = omega arith in subst (λ (i : ℕ). getD (f .fields) i 0 ≡ getD (g .fields) i 0) (sym z) (sym ff ∙ e ∙ gg), λ a. ff ∙ a 0 (omega arith) ∙ sym gg)
-  one-label single f g ff gg (suc n) hf hg =
-      let r = one-label single f g ff gg n (λ j l. hf j (omega arith)) (λ j l. hg j (omega arith)) in
-      let f-here = hf n (omega arith) in
-      let g-here = hg n (omega arith) in
-      let up = add-one n in (
-        λ e.
-            let e′ : getD (f .along) (n + 1) 0 ≡ getD (g .along) (n + 1) 0 = subst (λ (k : ℕ). getD (f .along) k 0 ≡ getD (g .along) k 0) (sym up) e in
-            let k : key-at n f ≡ key-at n g = at-one same-pair pair-decides (key-at n f) (key-at n g) (getD (places n) (getD (g .along) (n + 1) 0) None) (subst (λ (i : ℕ). at same-pair (key-at n f) (getD (places n) i None) ≡ true) e′ f-here) g-here in
-            let old = r .0 (ap (λ (p : Pair). p .left) k) in
-            λ j l. ⊎-elim (λ (q : j ≡ n + 1). subst (λ (i : ℕ). getD (f .fields) i 0 ≡ getD (g .fields) i 0) (sym q) (ap (λ (p : Pair). p .right) k)) (λ (ne : j ≡ n + 1 → ⊥). old j (omega arith)) (cases-eq j (n + 1)),
-        λ a.
-            let left = r .1 (λ j l. a j (omega arith)) in
-            let right = a (n + 1) (omega arith) in
-            let k : key-at n f ≡ key-at n g = cc in
-            subst (λ (i : ℕ). getD (f .along) i 0 ≡ getD (g .along) i 0) up (single n (getD (f .along) (n + 1) 0) (getD (g .along) (n + 1) 0) (key-at n g) (subst (λ (p : Pair). at same-pair p (getD (places n) (getD (f .along) (n + 1) 0) None) ≡ true) k f-here) g-here),
-      )
-
 all-unmap : {X Y : Type 0} (f : X → Y) (P : Y → Type 0) (xs : List X) → All P (map f xs) → All (λ x. P (f x)) xs
 all-unmap f P [] h = tt
 all-unmap f P (x ∷ xs) h = (h .0, all-unmap f P xs (h .1))
+
+all-both : {X : Type 0} (P Q : X → Type 0) (xs : List X) → All P xs → All Q xs → All (λ x. P x × Q x) xs
+all-both P Q [] p q = tt
+all-both P Q (x ∷ xs) p q = ((p .0, q .0), all-both P Q xs (p .1) (q .1))
+
+both-or-none : (x y : Bool) → (x ≡ true → y ≡ true) → (y ≡ true → x ≡ true) → x ≡ y
+both-or-none true true f g = refl
+both-or-none true false f g = sym (f refl)
+both-or-none false true f g = g refl
+both-or-none false false f g = refl
+
+-- counting different elements by another equality and test that say the same of them
+module _ {X Y : Type 0} (a : X → Y) (eq : Y → Y → Bool) (p : Y → Bool) (eq′ : X → X → Bool) (p′ : X → Bool) (Good : X → Type 0)
+    (same : (f g : X) → Good f → Good g → eq (a f) (a g) ≡ eq′ f g) (pass : (f : X) → Good f → p (a f) ≡ p′ f) where
+  some-same : (f : X) → Good f → (gs : List X) → All Good gs → some (eq (a f)) (map a gs) ≡ some (eq′ f) gs
+  some-same f hf [] h = refl
+  some-same f hf (g ∷ gs) h = ap (λ (b : Bool). b || some (eq (a f)) (map a gs)) (same f g hf (h .0)) ∙ ap (λ (b : Bool). eq′ f g || b) (some-same f hf gs (h .1))
+
+  different-same : (fs : List X) → All Good fs → different eq p (map a fs) ≡ different eq′ p′ fs
+  different-same [] h = refl
+  different-same (f ∷ fs) h =
+      ap (λ (b : Bool). cond b 0 (cond (p (a f)) 1 0) + different eq p (map a fs)) (some-same f (h .0) fs (h .1))
+      ∙ ap (λ (b : Bool). cond (some (eq′ f) fs) 0 (cond b 1 0) + different eq p (map a fs)) (pass f (h .0))
+      ∙ ap (λ (n : ℕ). cond (some (eq′ f) fs) 0 (cond (p′ f) 1 0) + n) (different-same fs (h .1))
+
+map-keys : (j : ℕ) (fs : List Filed) → map (λ (x : Standing Pair). x .key) (map (at-node j) fs) ≡ map (key-at j) fs
+map-keys j [] = refl
+map-keys j (f ∷ fs) = ap (λ (ps : List Pair). key-at j f ∷ ps) (map-keys j fs)
 
 all-swap : {X : Type 0} (Q : ℕ → X → Type 0) (n : ℕ) (xs : List X) → ((j : ℕ) → j < n → All (Q j) xs) → All (λ x. (j : ℕ) → j < n → Q j x) xs
 all-swap Q n [] h = tt
@@ -130,3 +105,52 @@ module _ {S : Type 0} (shows : S → Meaning Pair → Type 0) (d : Board Pair S 
       all-turn (λ f. (j : ℕ) → j < n → Holds (places-of d nodes) j f) (λ f. First f → member (getD (f .along) n 0) last ≡ all-found found f n)
       (λ f holds first. ap (member (getD (f .along) n 0)) e ∙ found-iff (places-of d nodes) found f first n holds)
       fs all-hold
+
+  -- no combination is at two labels of a node
+  single : (m : ℕ) → m < n → (i j : ℕ) (k : Pair) → at same-pair k (getD (places-of d nodes m) i None) ≡ true → at same-pair k (getD (places-of d nodes m) j None) ≡ true → i ≡ j
+  single m l i j k p q =
+      let slots = getD nodes m d .table .slots in
+      let same : (x : ℕ) → at same-pair k (getD (keys slots) x None) ≡ here same-pair k (getD slots x None) = λ x. ap (at same-pair k) (keys-at slots x) ∙ at-key same-pair k (getD slots x None) in
+      s m d l .labelled .single i j k (sym (same i) ∙ p) (sym (same j) ∙ q)
+
+  -- the filter begins with its first field, and each node holds its combination
+  abbrev Good : Filed → Type 0
+  Good f = First f × ((j : ℕ) → j < n → Holds (places-of d nodes) j f)
+
+  label-same : (m : ℕ) → m ≤ n → (f g : Filed) → Good f → Good g → eqb (getD (f .along) m 0) (getD (g .along) m 0) ≡ alike m f g
+  label-same zero l f g hf hg = ap (λ (x : ℕ). eqb x (getD (g .along) 0 0)) (hf .0) ∙ ap (eqb (getD (f .fields) 0 0)) (hg .0)
+  label-same (suc m) l f g hf hg =
+      let f-here = hf .1 m (omega arith) in
+      let g-here = hg .1 m (omega arith) in
+      let x : ℕ = getD (f .along) (m + 1) 0 in
+      let y : ℕ = getD (g .along) (m + 1) 0 in
+      ap (λ (i : ℕ). eqb (getD (f .along) i 0) (getD (g .along) i 0)) (sym (add-one m))
+      ∙ both-or-none (eqb x y) (same-pair (key-at m f) (key-at m g))
+      (λ e. pair-decides (key-at m f) (key-at m g) .1 (at-one same-pair pair-decides (key-at m f) (key-at m g) (getD (places-of d nodes m) y None) (subst (λ (i : ℕ). at same-pair (key-at m f) (getD (places-of d nodes m) i None) ≡ true) (eqb-true x y e) f-here) g-here))
+      (λ e. eq-eqb x y (single m (omega arith) x y (key-at m g) (subst (λ (q : Pair). at same-pair q (getD (places-of d nodes m) x None) ≡ true) (pair-decides (key-at m f) (key-at m g) .0 e) f-here) g-here))
+      ∙ ap (λ (b : Bool). b && eqb (getD (f .fields) (m + 1) 0) (getD (g .fields) (m + 1) 0)) (label-same m (omega arith) f g hf hg)
+
+  module _ (first : All First fs) where
+    all-good : All Good fs
+    all-good = all-both First (λ f. (j : ℕ) → j < n → Holds (places-of d nodes) j f) fs first all-hold
+
+    pub one-label : One-label fs n
+    one-label i j x li lj m l = label-same m l (getD fs i x) (getD fs j x) (all-getD Good fs i x li all-good) (all-getD Good fs j x lj all-good)
+
+    -- as many labels are found at a node as different label rows of the filters were found up to it
+    many-rows : (found : ℕ → List ℕ) (m : ℕ) → m ≤ n → length (reached (places-of d nodes) found m) ≡ rows-found found fs m
+    many-rows found zero l = refl
+    many-rows found (suc m) l =
+        let test = both-found (reached (places-of d nodes) found m) (found (m + 1)) in
+        found-different same-pair pair-decides (getD nodes m d .table .slots) (map (at-node m) fs) (s m d (omega arith) .labelled) test
+        ∙ ap (different same-pair test) (map-keys m fs)
+        ∙ different-same (key-at m) same-pair test (alike (suc m)) (λ f. all-found found f (suc m)) Good
+        (λ f g hf hg. ap (λ (b : Bool). b && eqb (getD (f .fields) (m + 1) 0) (getD (g .fields) (m + 1) 0)) (label-same m (omega arith) f g hf hg))
+        (λ f hf. ap (λ (b : Bool). b && member (getD (f .fields) (m + 1) 0) (found (m + 1))) (found-iff (places-of d nodes) found f (hf .0) m (λ j lj. hf .1 j (omega arith))))
+        fs all-good
+
+    pub by-rows : (found : ℕ → List ℕ) (m : ℕ) → m ≤ n → pairs (places-of d nodes) found m ≡ pairs-by-rows found fs m
+    by-rows found zero l = refl
+    by-rows found (suc m) l =
+        ap (λ (x : ℕ). x + length (reached (places-of d nodes) found m) * length (found (m + 1))) (by-rows found m (omega arith))
+        ∙ ap (λ (x : ℕ). pairs-by-rows found fs m + x * length (found (m + 1))) (many-rows found m (omega arith))

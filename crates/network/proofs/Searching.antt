@@ -19,25 +19,16 @@ use Rattle.parts.specs.Asked.{Questioned}
 use Rattle.stores.specs.declared.pairs.Pair.{Pair}
 use Rattle.labelling.specs.declared.board.Board.{Board}
 use Rattle.labelling.specs.declared.found.Found.{Found}
-use Rattle.network.specs.Products.{Labels, Crossed, product, both-found, Each-pair}
-use Rattle.network.specs.Searches.{found-in, reached, pairs, places-of, Asked-along}
+use Rattle.labelling.specs.Boards.{Labels}
+use Rattle.labelling.proofs.Listed.{marked-labels}
+use Rattle.network.specs.Products.{Crossed, product, both-found, Each-pair}
+use Rattle.labelling.specs.Lists.{found-in}
+use Rattle.network.specs.Searches.{reached, pairs, places-of, Asked-along}
 
 pub labels-at : (fs : List Found) (j : ℕ) (d : Found) → j < length fs → take (getD fs j d .count) (getD fs j d .labels) ≡ found-in fs j
 labels-at [] j d l = absurd (omega arith)
 labels-at (f ∷ fs) zero d l = refl
 labels-at (f ∷ fs) (suc j) d l = labels-at fs j d (omega arith)
-
-marked-below : (i : ℕ) (ms : List Bool) (n : ℕ) → i + length ms ≤ 96 → getD (marked-from i ms) n 0 ≤ 95
-marked-below i [] n h = omega arith
-marked-below i (false ∷ ms) n h = marked-below (i + 1) ms n (omega arith)
-marked-below i (true ∷ ms) zero h = omega arith
-marked-below i (true ∷ ms) (suc n) h = marked-below (i + 1) ms n (omega arith)
-
-pub marked-labels : (ms : List Bool) → length ms ≤ 96 → Labels (marked ms)
-marked-labels ms h n = marked-below 0 ms n (omega arith)
-
-pub take-over : (xs ys zs : List ℕ) (n : ℕ) → zs ≡ over-start xs ys → n ≡ length xs → take n zs ≡ xs
-take-over xs ys zs n e l = ap (take n) e ∙ take-append-le n xs (drop (length xs) ys) (omega arith) ∙ take-all n xs (omega arith)
 
 module _ {S : Type 0} (shows : S → Meaning Pair → Type 0) (agrees : S → List Pair → Type 0) (d : Board Pair S Pair) (old : List (Board Pair S Pair)) (found : ℕ → List ℕ) (ns : List ℕ) where
   abbrev R : ℕ → List ℕ

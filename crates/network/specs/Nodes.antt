@@ -58,12 +58,12 @@ Untold {S} old new fs f k = (j : ℕ) (d : Board Pair S Pair) → j < k → unus
 abbrev pub Asks-kept : {S : Type 0} → (S → List Pair → Type 0) → List (Board Pair S Pair) → List (Board Pair S Pair) → Type 0
 Asks-kept {S} agrees old new = (j : ℕ) (d : Board Pair S Pair) (l : List Pair) → agrees (getD old j d .part) l → agrees (getD new j d .part) l
 
--- two filters have the same labels in the first fields of the order, up to k
-abbrev pub Alike : Filed → Filed → ℕ → Type 0
-Alike f g k = (j : ℕ) → j ≤ k → getD (f .fields) j 0 ≡ getD (g .fields) j 0
+-- whether two filters have the same labels in the first fields of the order, up to position k, from 0
+abbrev pub alike : ℕ → Filed → Filed → Bool
+alike zero f g = eqb (getD (f .fields) 0 0) (getD (g .fields) 0 0)
+alike (suc k) f g = alike k f g && eqb (getD (f .fields) (k + 1) 0) (getD (g .fields) (k + 1) 0)
 
--- two filters have one label at a node, counted from 1, exactly if they have the same labels in all fields combined up to it
+-- two filters have one label at a node exactly if they have the same labels in all fields combined up to it
 abbrev pub One-label : List Filed → ℕ → Type 0
 One-label fs k = (i j : ℕ) (d : Filed) → i < length fs → j < length fs → (n : ℕ) → n ≤ k
-    → let f = getD fs i d in let g = getD fs j d in First f → First g
-    → (getD (f .along) n 0 ≡ getD (g .along) n 0 → Alike f g n) × (Alike f g n → getD (f .along) n 0 ≡ getD (g .along) n 0)
+    → eqb (getD (getD fs i d .along) n 0) (getD (getD fs j d .along) n 0) ≡ alike n (getD fs i d) (getD fs j d)

@@ -12,14 +12,7 @@ use Rattle.parts.specs.Marks.{mark-found, labels-of}
 use Rattle.parts.specs.Asked.{Questioned}
 use Rattle.stores.specs.declared.pairs.Pair.{Pair}
 use Rattle.stores.specs.Pairs.{pair, same-pair}
-
--- each is a label that a place can have
-abbrev pub Labels : List ℕ → Type 0
-Labels ls = (i : ℕ) → getD ls i 0 ≤ 95
-
-abbrev pub member : ℕ → List ℕ → Bool
-member n [] = false
-member n (x ∷ xs) = cond (eqb x n) true (member n xs)
+use Rattle.labelling.specs.Boards.{member}
 
 -- a left label with each right label, and all left labels with all right labels
 abbrev pub row : ℕ → List ℕ → List Pair

@@ -15,15 +15,12 @@ use Rattle.stores.specs.declared.pairs.Pair.{Pair}
 use Rattle.stores.specs.Pairs.{same-pair}
 use Rattle.labelling.specs.declared.board.Board.{Board}
 use Rattle.labelling.specs.declared.found.Found.{Found}
-use Rattle.network.specs.Products.{product, both-found, member, Each-pair}
-use Rattle.network.specs.Nodes.{Filed, First, key-at}
+use Rattle.labelling.specs.Boards.{member}
+use Rattle.labelling.specs.Lists.{found-in}
+use Rattle.network.specs.Products.{product, both-found, Each-pair}
+use Rattle.network.specs.Nodes.{Filed, First, key-at, alike}
 
--- the labels found in a field, and in the field at position j of an order, both from 0
-abbrev pub found-in : List Found → ℕ → List ℕ
-found-in [] j = []
-found-in (f ∷ fs) zero = take (f .count) (f .labels)
-found-in (f ∷ fs) (suc j) = found-in fs j
-
+-- the labels found in the field at position j of an order, from 0
 abbrev pub found-at : List ℕ → List Found → ℕ → List ℕ
 found-at order fs j = found-in fs (getD order j 0 - 1)
 
@@ -45,6 +42,16 @@ pairs places found (suc k) = pairs places found k + length (reached places found
 abbrev pub all-found : (ℕ → List ℕ) → Filed → ℕ → Bool
 all-found found f zero = member (getD (f .fields) 0 0) (found 0)
 all-found found f (suc k) = all-found found f k && member (getD (f .fields) (k + 1) 0) (found (k + 1))
+
+-- how many different label rows of the filters were found up to position k; at the first, how many labels were
+abbrev pub rows-found : (ℕ → List ℕ) → List Filed → ℕ → ℕ
+rows-found found fs zero = length (found 0)
+rows-found found fs (suc k) = different (alike (suc k)) (λ f. all-found found f (suc k)) fs
+
+-- the pairs that the first k nodes ask, told by the filters' label rows alone
+abbrev pub pairs-by-rows : (ℕ → List ℕ) → List Filed → ℕ → ℕ
+pairs-by-rows found fs zero = 0
+pairs-by-rows found fs (suc k) = pairs-by-rows found fs k + rows-found found fs k * length (found (k + 1))
 
 -- each of the first k nodes keeps its table, and its store was asked each pair of a label that the search had before it
 -- and a label found in its field, once

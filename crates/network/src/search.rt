@@ -7,9 +7,10 @@ ghost use Rattle.std.specs.shelf.Lists.{All};
 ghost use Rattle.parts.specs.Asked.{Succeeds};
 ghost use Rattle.stores.specs.declared.pairs.Pair.{Pair};
 ghost use Rattle.labelling.specs.declared.board.Board.{Board};
-ghost use Rattle.network.specs.Products.{Labels, member};
+ghost use Rattle.labelling.specs.Boards.{Labels, member};
 ghost use Rattle.network.specs.Nodes.{Filed, Nodes, First, «One-label»};
-ghost use Rattle.network.specs.Searches.{«found-in», «found-at», «Asked-along», «places-of», reached, pairs, «all-found»};
+ghost use Rattle.labelling.specs.Lists.{«found-in»};
+ghost use Rattle.network.specs.Searches.{«found-at», «Asked-along», «places-of», reached, pairs, «pairs-by-rows», «all-found»};
 use crate::asks::ask_node;
 use crate::network::NODES;
 use crate::network::Network;
@@ -33,6 +34,7 @@ impl<S: Store> Network<S> {
     // Asks along the nodes, from the labels found in the fields.
     pub fn ask(&mut self, fields: &[Found; FIELDS]) -> Result<Searched, Fault>
         ensures asked { λ r. ⌜ ((fs : List Filed) (ns : List ℕ) (d : Board Pair S Pair) → Nodes (S·Told .shows) (now (self .entry) .nodes) fs ns 5 → ((j : ℕ) → Labels (found-in (now (fields .entry)) j)) → Succeeds r (λ s. Asked-along (S·Told .shows) (S·Told .agrees) d (now (self .entry) .nodes) (now (self .exit) .nodes) (found-at (now (self .entry) .order .fields) (now (fields .entry))) ns 5 × (take (s .found .count) (s .found .labels) ≡ reached (places-of d (now (self .entry) .nodes)) (found-at (now (self .entry) .order .fields) (now (fields .entry))) 5) × (s .asked ≡ pairs (places-of d (now (self .entry) .nodes)) (found-at (now (self .entry) .order .fields) (now (fields .entry))) 5) × All (λ f. First f → member (getD (f .along) 5 0) (take (s .found .count) (s .found .labels)) ≡ all-found (found-at (now (self .entry) .order .fields) (now (fields .entry))) f 5) fs)) ⌝ }
+        ensures laws { λ r. ⌜ ((fs : List Filed) (ns : List ℕ) (d : Board Pair S Pair) → Nodes (S·Told .shows) (now (self .entry) .nodes) fs ns 5 → All First fs → One-label fs 5 × ((found : ℕ → List ℕ) → pairs (places-of d (now (self .entry) .nodes)) found 5 ≡ pairs-by-rows found fs 5)) ⌝ }
         ensures order { λ r. ⌜ now (self .exit) .order ≡ now (self .entry) .order ⌝ }
     {
         let start = field_index(&self.order, 1);

@@ -18,10 +18,11 @@ use Rattle.std.proofs.shelf.Lists.{take-all}
 use Rattle.parts.specs.Meaning.{Meaning, find}
 use Rattle.parts.specs.Marks.{marked, hit, over-start}
 use Rattle.parts.specs.Asked.{Questioned, after-questions}
-use Rattle.network.specs.Products.{Labels, Crossed, row, product, both-found, marks-after}
+use Rattle.labelling.specs.Boards.{Labels}
+use Rattle.network.specs.Products.{Crossed, row, product, both-found, marks-after}
 use Rattle.network.proofs.Asking.{product-more, after-places, marks-append, questioned-append}
 use Rattle.network.proofs.Marking.{crossed}
-use Rattle.network.proofs.Searching.{take-over}
+use Rattle.labelling.proofs.Listed.{take-over}
 use Rattle.network.proofs.Times.{product-times}
 use Rattle.network.proofs.asks.ask_pairs.Needs as need
 

@@ -6,7 +6,8 @@ use Rattle.parts.specs.Meaning.{Meaning, find}
 use Rattle.parts.specs.Asked.{Questioned}
 use Rattle.stores.specs.declared.pairs.Pair.{Pair}
 use Rattle.stores.specs.Pairs.{same-pair}
-use Rattle.network.specs.Products.{Labels, product, marks-after}
+use Rattle.labelling.specs.Boards.{Labels}
+use Rattle.network.specs.Products.{product, marks-after}
 use Rattle.network.proofs.asks.ask_pairs.Given as given
 
 abbrev pub Inv-loop-a : given.InvT-loop-a

@@ -18,7 +18,8 @@ use Rattle.parts.specs.Meaning.{Meaning, find, asked-once, label-fault}
 use Rattle.parts.specs.Marks.{mark-found}
 use Rattle.parts.specs.Asked.{Questioned, after-questions}
 use Rattle.labelling.proofs.Tells.{never-err}
-use Rattle.network.specs.Products.{Labels, row, marks-after}
+use Rattle.labelling.specs.Boards.{Labels}
+use Rattle.network.specs.Products.{row, marks-after}
 use Rattle.network.proofs.Asking.{row-more, after-places, marks-append, questioned-append}
 use Rattle.network.proofs.Entering.{none-over}
 use Rattle.network.proofs.asks.ask_row.Needs as need

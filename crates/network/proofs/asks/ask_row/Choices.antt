@@ -5,7 +5,8 @@ use Rattle.parts.specs.Meaning.{Meaning, find}
 use Rattle.parts.specs.Asked.{Questioned}
 use Rattle.stores.specs.declared.pairs.Pair.{Pair}
 use Rattle.stores.specs.Pairs.{same-pair}
-use Rattle.network.specs.Products.{Labels, row, marks-after}
+use Rattle.labelling.specs.Boards.{Labels}
+use Rattle.network.specs.Products.{row, marks-after}
 use Rattle.network.proofs.asks.ask_row.Given as given
 
 abbrev pub Inv-loop-b : given.InvT-loop-b

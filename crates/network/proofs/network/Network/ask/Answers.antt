@@ -18,13 +18,14 @@ use Rattle.std.proofs.shelf.Lists.{length-map, getD-set-other, getD-default}
 use Rattle.labels.specs.Labels.{key-of}
 use Rattle.labelling.specs.declared.board.Board.{Board}
 use Rattle.labelling.specs.declared.found.Found.{Found}
-use Rattle.labelling.specs.Boards.{Stands}
-use Rattle.network.specs.Products.{Labels, Crossed}
+use Rattle.labelling.specs.Boards.{Stands, Labels}
+use Rattle.network.specs.Products.{Crossed}
 use Rattle.network.specs.Nodes.{Filed, at-node, Nodes}
-use Rattle.network.specs.Searches.{found-in, found-at, places-of, reached, pairs}
+use Rattle.labelling.specs.Lists.{found-in}
+use Rattle.network.specs.Searches.{found-at, places-of, reached, pairs}
 use Rattle.network.proofs.Entering.{next-is}
 use Rattle.network.proofs.Searching.{labels-at, turn}
-use Rattle.network.proofs.Reached.{all-reached}
+use Rattle.network.proofs.Reached.{all-reached, one-label, by-rows}
 use Rattle.network.proofs.network.Network.ask.Needs as need
 
 pub loop-k-holds : need.loop-k-holds
@@ -94,6 +95,7 @@ returns-in-Break-crossing g c =
           absurd (c .in-Break-crossing .ensures tt .crossed (map (at-node k) fs) (getD ns k 0)
           (subst (λ (b : Board Pair (g .S .Denot) Pair). Stands same-pair (g .S·Told .shows) (b .table .slots) (b .part) (map (at-node k) fs) (getD ns k 0)) (sym same) here)
           (subst Labels (sym l) (i .3)) (subst Labels (sym r) (lf (getD (order .fields) (k + 1) 0 - 1))));
+      laws = λ fs ns d s first. (one-label (g .S·Told .shows) d (c .args .self .now .nodes) fs ns 5 s first, λ found. by-rows (g .S·Told .shows) d (c .args .self .now .nodes) fs ns 5 s first found 5 (omega arith));
       order = inv .4;
     }
 
@@ -107,5 +109,6 @@ returns g c =
           let found = found-at (c .args .self .now .order .fields) (c .args .fields .now) in
           let last : take (c .loop-k .count) (c .loop-k .left) ≡ reached (places-of d old) found 5 = i .1 ∙ ap (reached (places-of d old) found) five in
           (λ j l. i .0 j (omega arith), last, i .2 ∙ ap (pairs (places-of d old) found) five, all-reached (g .S·Told .shows) d old fs ns 5 s found (take (c .loop-k .count) (c .loop-k .left)) last);
+      laws = λ fs ns d s first. (one-label (g .S·Told .shows) d (c .args .self .now .nodes) fs ns 5 s first, λ found. by-rows (g .S·Told .shows) d (c .args .self .now .nodes) fs ns 5 s first found 5 (omega arith));
       order = c .loop-k .inv .4;
     }

@@ -4,9 +4,10 @@ use mathlib.Core.List.{List}
 use lib.ListN.{length, getD, take}
 use Rattle.stores.specs.declared.pairs.Pair.{Pair}
 use Rattle.labelling.specs.declared.board.Board.{Board}
-use Rattle.network.specs.Products.{Labels}
+use Rattle.labelling.specs.Boards.{Labels}
 use Rattle.network.specs.Nodes.{Filed, Nodes}
-use Rattle.network.specs.Searches.{found-in, found-at, places-of, reached, pairs, Asked-along}
+use Rattle.labelling.specs.Lists.{found-in}
+use Rattle.network.specs.Searches.{found-at, places-of, reached, pairs, Asked-along}
 use Rattle.network.proofs.network.Network.ask.Given as given
 
 abbrev pub Inv-loop-k : given.InvT-loop-k

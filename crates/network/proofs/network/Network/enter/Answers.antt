@@ -17,8 +17,7 @@ use Rattle.std.proofs.shelf.Lists.{getD-default, getD-set-other, map-append}
 use Rattle.labels.specs.Labels.{Standing}
 use Rattle.parts.specs.Meaning.{Meaning}
 use Rattle.labelling.specs.declared.board.Board.{Board}
-use Rattle.labelling.specs.Boards.{Stands}
-use Rattle.network.specs.Products.{Labels}
+use Rattle.labelling.specs.Boards.{Stands, Labels}
 use Rattle.network.specs.Nodes.{Filed, filed, key-at, at-node, Nodes, fresh, arranged, unused}
 use Rattle.network.proofs.Entering.{replicate-below, set-below, none-over, arranged-below, field-is, key-is, next-is, map-length, node-before, chained, bit-one, fresh-more, unused-split, untold-more, keys-kept, asks-more}
 use Rattle.network.proofs.network.Network.enter.Needs as need

@@ -4,7 +4,7 @@ use mathlib.Core.List.{List, [], _∷_, _++_}
 use lib.ListN.{length, getD}
 use Rattle.stores.specs.declared.pairs.Pair.{Pair}
 use Rattle.labelling.specs.declared.board.Board.{Board}
-use Rattle.network.specs.Products.{Labels}
+use Rattle.labelling.specs.Boards.{Labels}
 use Rattle.network.specs.Nodes.{Filed, filed, First, Nodes, fresh, arranged, Untold, Asks-kept}
 use Rattle.network.proofs.network.Network.enter.Given as given
 
