@@ -37,6 +37,52 @@ impl<
     E: Engine<Protocol>,
     F: Engine<FlagMask>,
 > Columns<A, B, C, D, E, F> {
+    // Six columns over these engines, emptied, with every label free.
+    pub fn make(
+        source: A,
+        destination: B,
+        source_port: C,
+        destination_port: D,
+        protocol: E,
+        flags: F,
+    ) -> Columns<A, B, C, D, E, F>
+        ensures stands { λ r. ⌜ Stand (A·Told .shows) (B·Told .shows) (C·Told .shows) (D·Told .shows) (E·Told .shows) (F·Told .shows) r [] (λ _. 0) ⌝ }
+        ensures asked { λ r. ⌜ A·Told .agrees (r .«source») [] × B·Told .agrees (r .«destination») [] × C·Told .agrees (r .«source_port») [] × D·Told .agrees (r .«destination_port») [] × E·Told .agrees (r .«protocol») [] × F·Told .agrees (r .«flags») [] ⌝ }
+    {
+        let mut source = source;
+        source.empty();
+        let source_labels = LabelTable::empty();
+        let mut destination = destination;
+        destination.empty();
+        let destination_labels = LabelTable::empty();
+        let mut source_port = source_port;
+        source_port.empty();
+        let source_port_labels = LabelTable::empty();
+        let mut destination_port = destination_port;
+        destination_port.empty();
+        let destination_port_labels = LabelTable::empty();
+        let mut protocol = protocol;
+        protocol.empty();
+        let protocol_labels = LabelTable::empty();
+        let mut flags = flags;
+        flags.empty();
+        let flags_labels = LabelTable::empty();
+        Columns {
+            source_labels,
+            destination_labels,
+            source_port_labels,
+            destination_port_labels,
+            protocol_labels,
+            flags_labels,
+            source,
+            destination,
+            source_port,
+            destination_port,
+            protocol,
+            flags,
+        }
+    }
+
     // Gives a filter its labels in the fields.
     pub fn enter(&mut self, filter: Filter) -> Result<Entered, Fault>
         ensures { λ r. ⌜ ((before after : List Placed) (ns : ℕ → ℕ) → length (before ++ after) < 96 → Stand (A·Told .shows) (B·Told .shows) (C·Told .shows) (D·Told .shows) (E·Told .shows) (F·Told .shows) (now (self .entry)) (before ++ after) ns → Succeeds r (λ x. Stand (A·Told .shows) (B·Told .shows) (C·Told .shows) (D·Told .shows) (E·Told .shows) (F·Told .shows) (now (self .exit)) (before ++ placed filter (x .labels) ∷ after) ns × (x .new ≡ fresh filter (before ++ after)) × Labels (x .labels) × Told-columns (A·Told .agrees) (B·Told .agrees) (C·Told .agrees) (D·Told .agrees) (E·Told .agrees) (F·Told .agrees) (now (self .entry)) (now (self .exit)) filter (before ++ after))) ⌝ }

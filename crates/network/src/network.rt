@@ -5,6 +5,8 @@ ghost use Prim.Native.Nat.{ℕ, _-_, _<_, _≤_};
 ghost use lib.ListN.{length, getD};
 ghost use Rattle.parts.specs.Asked.{Succeeds};
 ghost use Rattle.labelling.specs.Boards.{Labels};
+ghost use Rattle.labelling.specs.declared.board.Board.{Board};
+ghost use Rattle.stores.specs.declared.pairs.Pair.{Pair};
 ghost use Rattle.network.specs.Nodes.{Filed, filed, First, Nodes, fresh, arranged, Untold, «Asks-kept»};
 use fields::faults::Fault;
 use fields::orders::FIELDS;
@@ -41,6 +43,23 @@ pub(crate) fn field_index(order: &NetworkOrder, position: usize) -> usize
 }
 
 impl<S: Store> Network<S> {
+    // A network in this order over five stores, emptied, with every label free.
+    pub fn make(order: NetworkOrder, a: S, b: S, c: S, d: S, e: S) -> Network<S>
+        ensures stands { λ r. ⌜ Nodes (S·Told .shows) (r .nodes) [] [] 5 ⌝ }
+        ensures asked { λ r. ⌜ ((j : ℕ) (x : Board Pair S Pair) → j < 5 → S·Told .agrees (getD (r .nodes) j x .part) []) ⌝ }
+        ensures order { λ r. ⌜ r .order ≡ order ⌝ }
+    {
+        let first = Board::make(a);
+        let second = Board::make(b);
+        let third = Board::make(c);
+        let fourth = Board::make(d);
+        let fifth = Board::make(e);
+        Network {
+            order,
+            nodes: [first, second, third, fourth, fifth],
+        }
+    }
+
     // Gives a filter with these labels in its fields its labels along the nodes.
     pub fn enter(&mut self, fields: [u8; FIELDS]) -> Result<Entered, Fault>
         ensures entered { λ r. ⌜ ((before after : List Filed) (ns : List ℕ) → Nodes (S·Told .shows) (now (self .entry) .nodes) (before ++ after) ns 5 → length (before ++ after) < 96 → Labels fields → Succeeds r (λ e. Nodes (S·Told .shows) (now (self .exit) .nodes) (before ++ filed (arranged (now (self .entry) .order .fields) fields) (e .labels) ∷ after) ns 5 × (e .new ≡ fresh (before ++ after) (filed (arranged (now (self .entry) .order .fields) fields) (e .labels)) 5) × Labels (e .labels) × First (filed (arranged (now (self .entry) .order .fields) fields) (e .labels)) × Untold (now (self .entry) .nodes) (now (self .exit) .nodes) (before ++ after) (filed (arranged (now (self .entry) .order .fields) fields) (e .labels)) 5)) ⌝ }
