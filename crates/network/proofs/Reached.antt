@@ -50,7 +50,7 @@ module _ (places : ℕ → List (Option Pair)) where
       ∙ held-tested same-pair pair-decides (both-found (reached places found n) (found (n + 1))) (places n) (getD (f .along) (n + 1) 0) (key-at n f) (holds n (omega arith))
       ∙ ap (λ (b : Bool). b && member (getD (f .fields) (n + 1) 0) (found (n + 1))) before
 
-all-unmap : {X Y : Type 0} (f : X → Y) (P : Y → Type 0) (xs : List X) → All P (map f xs) → All (λ x. P (f x)) xs
+pub all-unmap : {X Y : Type 0} (f : X → Y) (P : Y → Type 0) (xs : List X) → All P (map f xs) → All (λ x. P (f x)) xs
 all-unmap f P [] h = tt
 all-unmap f P (x ∷ xs) h = (h .0, all-unmap f P xs (h .1))
 

@@ -1,13 +1,16 @@
 // The network: five nodes in a row over any make of store, combining the fields in a formed order.
 ghost use mathlib.Core.Path.{_≡_};
-ghost use mathlib.Core.List.{List, [], _∷_, _++_};
-ghost use Prim.Native.Nat.{ℕ, _-_, _<_, _≤_};
+ghost use mathlib.Core.List.{List, [], _∷_, _++_, map};
+ghost use Prim.Native.Nat.{ℕ, _+_, _-_, _<_, _≤_};
 ghost use lib.ListN.{length, getD};
+ghost use Rattle.std.specs.shelf.Lists.{All};
+ghost use Rattle.labels.specs.Labels.{occurrences};
 ghost use Rattle.parts.specs.Asked.{Succeeds};
+ghost use Rattle.stores.specs.Pairs.{«same-pair»};
 ghost use Rattle.labelling.specs.Boards.{Labels};
 ghost use Rattle.labelling.specs.declared.board.Board.{Board};
 ghost use Rattle.stores.specs.declared.pairs.Pair.{Pair};
-ghost use Rattle.network.specs.Nodes.{Filed, filed, First, Nodes, fresh, arranged, Untold, «Asks-kept»};
+ghost use Rattle.network.specs.Nodes.{«key-at», «at-node», Filed, filed, First, Nodes, fresh, arranged, Untold, «Asks-kept»};
 use fields::faults::Fault;
 use fields::orders::FIELDS;
 use fields::orders::NetworkOrder;
@@ -94,5 +97,15 @@ impl<S: Store> Network<S> {
             freed += last as u8;
         }
         Ok(freed)
+    }
+
+    // How many standing filters have a label at a node, counted from 0; 0 where there is no such node.
+    pub fn count(&self, node: usize, label: u8) -> u8
+        ensures { λ r. ⌜ ((fs : List Filed) (ns : List ℕ) → Nodes (S·Told .shows) (now (self .entry) .nodes) fs ns 5 → node < 5 → All (λ f. getD (f .along) (node + 1) 0 ≡ label → r ≡ occurrences same-pair (key-at node f) (map (at-node node) fs)) fs) ⌝ }
+    {
+        if node >= NODES {
+            return 0;
+        }
+        self.nodes[node].table.count(label)
     }
 }
