@@ -11,15 +11,17 @@ use Rattle.std.specs.Orderings.{Decides}
 use Rattle.std.specs.shelf.Lists.{All}
 use Rattle.std.proofs.shelf.Lists.{length-map, map-append}
 use Rattle.std.specs.declared.option.Option.{Option}
+use Rattle.std.specs.declared.option.Option.the-variants.{None}
 use Rattle.filters.specs.declared.filter.Filter.{Filter}
 use Rattle.labels.specs.declared.table.Used.{Used}
-use Rattle.labels.specs.Labels.{Standing, standing, occurrences, keys, key-of}
+use Rattle.labels.specs.Labels.{Standing, standing, Labelled, here, occurrences, keys, key-of}
+use Rattle.labels.proofs.Tables.{all-turn}
 use Rattle.parts.specs.Meaning.{Meaning}
 use Rattle.filters.specs.Counting.{different}
 use Rattle.parts.specs.Marks.{hit, labels-of}
 use Rattle.labelling.specs.Boards.{Stands, Labels, member}
 use Rattle.labelling.proofs.Listed.{found-different, labels-tested, marked-labels}
-use Rattle.columns.specs.Fields.{Placed, placed, in-field, unused, bit, Told-if, Found-in, Answered}
+use Rattle.columns.specs.Fields.{Placed, placed, in-field, unused, bit, Told-if, Found-in, Answered, Counted}
 
 pub bits : (b : Bool) → boolByte b ≡ bit b
 bits true = refl
@@ -89,3 +91,15 @@ answered {V} eq law takes shows agrees value j number old new ps found slots n s
       below = subst Labels (sym e) (marked-labels (map (hit takes) (keys slots)) (omega (arith, length-map (keys slots) (hit takes), length-map slots (key-of {K = V}), s .labelled .size)));
       asked = a;
     }
+
+-- what a field's table counts, said of the standing filters
+pub counted : {V P : Type 0} (eq : V → V → Bool) (shows : P → Meaning V → Type 0) (value : Filter → V) (j : ℕ) (part : P) (ps : List Placed) (slots : List (Option (Used V))) (n label count : ℕ)
+    → Stands eq shows slots part (map (in-field value j) ps) n
+    → ((fs : List (Standing V)) (key : V) → Labelled eq slots fs → here eq key (getD slots label None) ≡ true → count ≡ occurrences eq key fs)
+    → Counted eq value j label count ps
+counted eq shows value j part ps slots n label count s h =
+    all-turn (λ p. here eq (value (p .filter)) (getD slots (getD (p .labels) j 0) None) ≡ true)
+    (λ p. getD (p .labels) j 0 ≡ label → count ≡ occurrences eq (value (p .filter)) (map (in-field value j) ps))
+    (λ p q e. h (map (in-field value j) ps) (value (p .filter)) (s .labelled) (subst (λ (i : ℕ). here eq (value (p .filter)) (getD slots i None) ≡ true) e q))
+    ps
+    (all-unmap (in-field value j) (λ x. here eq (x .key) (getD slots (x .label) None) ≡ true) ps (s .labelled .holds))

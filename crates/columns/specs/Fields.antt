@@ -116,3 +116,15 @@ pub record Answered-columns {A B C D E F : Type 0} (a : A → List ℕ → Type 
 -- each was asked once more
 abbrev pub once-more : (ℕ → ℕ) → ℕ → ℕ
 once-more asked j = (asked j + 1) % 2 ^ 32
+
+-- count is how many filters have the value of each filter that has the label in the field
+abbrev pub Counted : {V : Type 0} → (V → V → Bool) → (Filter → V) → ℕ → ℕ → ℕ → List Placed → Type 0
+Counted eq value j label count ps = All (λ p. getD (p .labels) j 0 ≡ label → count ≡ occurrences eq (value (p .filter)) (map (in-field value j) ps)) ps
+
+pub record Counted-columns (field label count : ℕ) (ps : List Placed) : Type 0 where
+  pub source : field ≡ 0 → Counted prefix-eq (λ g. g .source) 0 label count ps
+  pub destination : field ≡ 1 → Counted prefix-eq (λ g. g .destination) 1 label count ps
+  pub source-port : field ≡ 2 → Counted range-eq (λ g. g .«source_port») 2 label count ps
+  pub destination-port : field ≡ 3 → Counted range-eq (λ g. g .«destination_port») 3 label count ps
+  pub protocol : field ≡ 4 → Counted protocol-eq (λ g. g .protocol) 4 label count ps
+  pub flags : field ≡ 5 → Counted flags-eq (λ g. g .flags) 5 label count ps

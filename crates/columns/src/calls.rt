@@ -6,7 +6,7 @@ ghost use lib.ListN.{length};
 ghost use Rattle.filters.specs.declared.filter.Filter.{Filter};
 ghost use Rattle.parts.specs.Asked.{Succeeds};
 ghost use Rattle.labelling.specs.Boards.{Labels};
-ghost use Rattle.columns.specs.Fields.{Placed, placed, Stand, fresh, «Told-columns»};
+ghost use Rattle.columns.specs.Fields.{Placed, placed, Stand, fresh, «Told-columns», «Counted-columns»};
 use crate::columns::Columns;
 use crate::columns::Entered;
 use engines::engine::Engine;
@@ -139,5 +139,20 @@ impl<
         let e = leave(&mut self.protocol_labels, &mut self.protocol, labels[4])?;
         let f = leave(&mut self.flags_labels, &mut self.flags, labels[5])?;
         Ok(a as u8 + b as u8 + c as u8 + d as u8 + e as u8 + f as u8)
+    }
+
+    // How many standing filters have a label in a field, counted from 0; 0 where there is no such field.
+    pub fn count(&self, field: usize, label: u8) -> u8
+        ensures { λ r. ⌜ ((ps : List Placed) (ns : ℕ → ℕ) → Stand (A·Told .shows) (B·Told .shows) (C·Told .shows) (D·Told .shows) (E·Told .shows) (F·Told .shows) (now (self .entry)) ps ns → Counted-columns field label r ps) ⌝ }
+    {
+        match field {
+            0 => self.source_labels.count(label),
+            1 => self.destination_labels.count(label),
+            2 => self.source_port_labels.count(label),
+            3 => self.destination_port_labels.count(label),
+            4 => self.protocol_labels.count(label),
+            5 => self.flags_labels.count(label),
+            _ => 0,
+        }
     }
 }

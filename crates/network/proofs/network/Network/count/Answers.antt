@@ -18,7 +18,7 @@ returns g c = λ fs ns s l.
     let slots = getD (c .args .self .now .nodes) node d .table .slots in
     let stands = s node d l in
     all-turn (λ f. here same-pair (key-at node f) (getD slots (getD (f .along) (node + 1) 0) None) ≡ true)
-      (λ f. getD (f .along) (node + 1) 0 ≡ c .args .label → c .count .result ≡ occurrences same-pair (key-at node f) (map (at-node node) fs))
-      (λ f h e. c .count .ensures .counts (map (at-node node) fs) (key-at node f) (stands .labelled) (subst (λ (i : ℕ). here same-pair (key-at node f) (getD slots i None) ≡ true) e h))
-      fs
-      (all-unmap (at-node node) (λ x. here same-pair (x .key) (getD slots (x .label) None) ≡ true) fs (stands .labelled .holds))
+    (λ f. getD (f .along) (node + 1) 0 ≡ c .args .label → c .count .result ≡ occurrences same-pair (key-at node f) (map (at-node node) fs))
+    (λ f h e. c .count .ensures .counts (map (at-node node) fs) (key-at node f) (stands .labelled) (subst (λ (i : ℕ). here same-pair (key-at node f) (getD slots i None) ≡ true) e h))
+    fs
+    (all-unmap (at-node node) (λ x. here same-pair (x .key) (getD slots (x .label) None) ≡ true) fs (stands .labelled .holds))
