@@ -27,13 +27,20 @@ mod tests {
         PrefixKind::form(PrefixRow { address, length })
     }
 
+    fn number_of(fault: Option<Fault>) -> usize {
+        match fault {
+            Some(fault) => fault.number() as usize,
+            None => 0,
+        }
+    }
+
     // How many labels a match found, or the number of a refusal.
-    fn told(answer: &Answer<Prefix>) -> usize {
+    fn told(answer: Answer<Prefix>) -> usize {
         match answer {
-            Answer::Matched(Ok(count), _) => *count,
-            Answer::Set(Err(fault)) => fault.number() as usize,
-            Answer::Cleared(Err(fault)) => fault.number() as usize,
-            _ => 0,
+            Answer::Emptied => 0,
+            Answer::Set(result) => number_of(result.err()),
+            Answer::Cleared(result) => number_of(result.err()),
+            Answer::Matched(result, _) => result.unwrap_or(0),
         }
     }
 
@@ -57,10 +64,10 @@ mod tests {
         let mut trie = Trie::new();
         let both = run_both(heap, &mut scan, &mut trie, &calls)?;
         for (i, answer) in both.first.iter().enumerate() {
-            check(i < 11 && told(answer) == wanted[i])?;
+            check(i < 11 && told(*answer) == wanted[i])?;
         }
         for (i, answer) in both.second.iter().enumerate() {
-            check(i < 11 && told(answer) == wanted[i])?;
+            check(i < 11 && told(*answer) == wanted[i])?;
         }
         check(both.first.len() == 11 && both.second.len() == 11)
     }
