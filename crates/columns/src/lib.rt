@@ -1,0 +1,4 @@
+pub mod calls;
+pub mod columns;
+pub mod engines;
+pub mod search;

@@ -1,0 +1,3 @@
+pub mod board;
+pub mod found;
+pub mod told;

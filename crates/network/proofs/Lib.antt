@@ -1,0 +1,6 @@
+pub mod Asking
+pub mod Marking
+pub mod Times
+pub mod Entering
+pub mod Reached
+pub mod Searching

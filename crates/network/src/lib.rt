@@ -1,0 +1,3 @@
+mod asks;
+pub mod network;
+pub mod search;
