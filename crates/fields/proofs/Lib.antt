@@ -1,4 +1,2 @@
 pub mod Values
-pub mod Blocks
-pub mod Masks
 pub mod EachOnce

@@ -1,19 +1,16 @@
 -- A value is its row: values with one row are one value, and comparing rows decides whether values are the same.
-use Rattle.std.proofs.Common.{◌≡◌, ℕ, ◌-◌, ◌%◌, ◌^◌, ◌<◌, ◌≤◌, Bool, true, false, eqb, Decides, refl, ap, subst, arith}
+use Rattle.std.proofs.Common.{◌≡◌, ℕ, ◌-◌, ◌%◌, ◌^◌, ◌<◌, ◌≤◌, true, Decides, refl, ap, arith}
 use mathlib.Core.Bool.{Bool-set}
 use mathlib.Core.HLevel.{is_prop→PathP}
 use native.Mathlib.Bridge.{le_prop}
 use native.Mathlib.Nat.{ℕ_set}
 use lib.Bits.{bit_and}
 use Rattle.std.proofs.lemmas.Bool.Decides.{Decides-and, Decides-eqb, Decides-like}
-use Rattle.fields.specs.declared.prefixes.PrefixRow.{PrefixRow}
 use Rattle.fields.specs.declared.prefixes.Prefix.{Prefix}
-use Rattle.fields.specs.declared.ranges.RangeRow.{RangeRow}
 use Rattle.fields.specs.declared.ranges.PortRange.{PortRange}
 use Rattle.fields.specs.declared.protocols.ProtocolRow.{ProtocolRow}
 use Rattle.fields.specs.declared.protocols.ProtocolRow.TheVariants.{Any, Only}
 use Rattle.fields.specs.declared.protocols.Protocol.{Protocol}
-use Rattle.fields.specs.declared.flags.FlagRow.{FlagRow}
 use Rattle.fields.specs.declared.flags.FlagMask.{FlagMask}
 use Rattle.fields.specs.Prefixes.{same_prefix}
 use Rattle.fields.specs.Ranges.{same_range}

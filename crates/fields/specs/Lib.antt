@@ -4,3 +4,6 @@ pub mod Ranges
 pub mod Protocols
 pub mod Flags
 pub mod Orders
+pub mod Blocks
+pub mod Masks
+pub mod Unique

@@ -1,6 +1,7 @@
 // The refusals of the classifier and everything below it.
-ghost use Rattle.std.specs.Prelude.{◌≡◌};
+ghost use Rattle.std.specs.Prelude.{◌≡◌, nat_eq};
 ghost use Rattle.fields.specs.Faults.{number, detail};
+ghost use Rattle.std.specs.Ordering.{eq_of_both, on};
 ghost use Rattle.std.specs.Cmp.Rules.{comparing};
 ghost use Rattle.std.proofs.Common.{rules};
 ghost use Rattle.std.specs.Cmp as Keys;
@@ -98,6 +99,8 @@ impl Fault {
 
 // Two refusals are equal if they have one number and one detail.
 impl PartialEq for Fault {
+    ghost eq = { eq_of_both (on number nat_eq) (on detail nat_eq) };
+
     ghost laws = { Keys.partial_equiv_from_equiv (Prim.search (comparing, rules)) };
 
     fn eq(&self, other: &Fault) -> bool {

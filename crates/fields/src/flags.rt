@@ -1,7 +1,8 @@
 // Field 6: flags under a mask.
 ghost use Rattle.std.specs.Prelude.{◌≡◌, ◌^◌, ◌<◌, [], bit_and};
 ghost use Rattle.fields.specs.Flags.{flag_fault, flag_takes, same_flags};
-ghost use Rattle.std.proofs.Common.{rules, arith};
+ghost use Rattle.std.proofs.Common.{refl, rules, arith};
+ghost use Rattle.fields.specs.Unique.{flag_rows};
 
 use crate::faults::Fault;
 use crate::keys::Key;
@@ -43,9 +44,9 @@ impl Kind for FlagMask {
 
     ghost unlawful = { flag_fault };
 
-    ghost unique = { first_of (Prim.search rules, Prim.grind (arith, Self.row.coded.inj)) };
+    ghost unique = { λ a b h. let e = flag_rows a.row b.row a.inside b.inside a.fits b.fits h in Prim.grind (arith, Self.row.coded.inj) };
 
-    ghost unlabelled = { first_of (Prim.search rules, Prim.grind (arith, Self.row.coded.inj)) };
+    ghost unlabelled = { λ _. refl };
 
     fn form(row: FlagRow) -> Result<FlagMask, Fault> {
         if row.wanted & row.mask != row.wanted {

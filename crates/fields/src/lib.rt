@@ -1,3 +1,5 @@
+#![tactic(auto)]
+
 pub mod faults;
 pub mod flags;
 pub mod keys;

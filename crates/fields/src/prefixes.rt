@@ -1,7 +1,8 @@
 // Fields 1 and 2: a prefix of a 32-bit address.
 ghost use Rattle.std.specs.Prelude.{◌≡◌, ◌-◌, ◌/◌, ◌%◌, ◌^◌, ◌<◌, ◌≤◌, []};
 ghost use Rattle.fields.specs.Prefixes.{prefix_fault, prefix_takes, same_prefix};
-ghost use Rattle.std.proofs.Common.{rules, arith};
+ghost use Rattle.std.proofs.Common.{refl, rules, arith};
+ghost use Rattle.fields.specs.Unique.{prefix_rows};
 
 use crate::faults::Fault;
 use crate::keys::Key;
@@ -44,9 +45,9 @@ impl Kind for Prefix {
 
     ghost unlawful = { prefix_fault };
 
-    ghost unique = { first_of (Prim.search rules, Prim.grind (arith, Self.row.coded.inj)) };
+    ghost unique = { λ a b h. let e = prefix_rows a.row b.row a.short b.short a.clean b.clean a.fits b.fits h in Prim.grind (arith, Self.row.coded.inj) };
 
-    ghost unlabelled = { first_of (Prim.search rules, Prim.grind (arith, Self.row.coded.inj)) };
+    ghost unlabelled = { λ _. refl };
 
     fn form(row: PrefixRow) -> Result<Prefix, Fault> {
         if row.length > 32 || beyond(row.address, row.length) != 0 {

@@ -1,7 +1,8 @@
 // Field 5: a protocol number, or any.
 ghost use Rattle.std.specs.Prelude.{◌≡◌, true, []};
 ghost use Rattle.fields.specs.Protocols.{protocol_fault, protocol_takes, same_protocol, fits_byte};
-ghost use Rattle.std.proofs.Common.{rules, arith};
+ghost use Rattle.std.proofs.Common.{refl, rules, arith};
+ghost use Rattle.fields.specs.Unique.{protocol_rows};
 
 use crate::faults::Fault;
 use crate::keys::Key;
@@ -46,9 +47,9 @@ impl Kind for Protocol {
 
     ghost unlawful = { protocol_fault };
 
-    ghost unique = { first_of (Prim.search rules, Prim.grind (arith, Self.row.coded.inj)) };
+    ghost unique = { λ a b h. let e = protocol_rows a.row b.row a.fits b.fits h in Prim.grind (arith, Self.row.coded.inj) };
 
-    ghost unlabelled = { first_of (Prim.search rules, Prim.grind (arith, Self.row.coded.inj)) };
+    ghost unlabelled = { λ _. refl };
 
     fn form(row: ProtocolRow) -> Result<Protocol, Fault> {
         Ok(Protocol { row })

@@ -1,7 +1,8 @@
 // Fields 3 and 4: a range of ports.
 ghost use Rattle.std.specs.Prelude.{◌≡◌, ◌^◌, ◌<◌, ◌≤◌, []};
 ghost use Rattle.fields.specs.Ranges.{range_fault, range_takes, same_range};
-ghost use Rattle.std.proofs.Common.{rules, arith};
+ghost use Rattle.std.proofs.Common.{refl, rules, arith};
+ghost use Rattle.fields.specs.Unique.{range_rows};
 
 use crate::faults::Fault;
 use crate::keys::Key;
@@ -43,9 +44,9 @@ impl Kind for PortRange {
 
     ghost unlawful = { range_fault };
 
-    ghost unique = { first_of (Prim.search rules, Prim.grind (arith, Self.row.coded.inj)) };
+    ghost unique = { λ a b h. let e = range_rows a.row b.row a.ascends b.ascends a.fits b.fits h in Prim.grind (arith, Self.row.coded.inj) };
 
-    ghost unlabelled = { first_of (Prim.search rules, Prim.grind (arith, Self.row.coded.inj)) };
+    ghost unlabelled = { λ _. refl };
 
     fn form(row: RangeRow) -> Result<PortRange, Fault> {
         if row.low > row.high {

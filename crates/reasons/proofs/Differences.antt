@@ -7,7 +7,7 @@ use Rattle.std.proofs.lemmas.Nat.{leading_top, le-div}
 use Rattle.std.proofs.lemmas.Bool.{cases_lt, both_ways, eq-eqb}
 use Rattle.fields.specs.declared.prefixes.PrefixRow.{PrefixRow}
 use Rattle.fields.specs.Prefixes.{first_bits, prefix_takes}
-use Rattle.fields.proofs.Masks.{same_if_xor_zero}
+use Rattle.fields.specs.Masks.{same_if_xor_zero}
 use Rattle.reasons.specs.Reasons.{FirstDifference}
 
 -- numbers agree above a place where their exclusive or ends, and not below it

@@ -7,13 +7,13 @@ use Rattle.fields.proofs.orders.first_wrong.Goals as goal
 pub loop-i-init : goal.loop-i-init
 loop-i-init c = refl
 
-pub returns-then-not-goes-on : goal.returns-then-not-goes-on
-returns-then-not-goes-on c =
-    sym (sym c.loop-i.invariant ∙ first_wrong_turn field_count c.args.fields.now c.loop-i.i false c.loop-i-test.true c.if-not-goes-on.ensures)
+pub returns-then-not-goes_on : goal.returns-then-not-goes_on
+returns-then-not-goes_on c =
+    sym (sym c.loop-i.invariant ∙ first_wrong_turn field_count c.args.fields.now c.loop-i.i false c.loop-i-test.true c.if-not-goes_on.ensures)
 
 pub loop-i-preserved : goal.loop-i-preserved
 loop-i-preserved c =
-    sym (sym c.loop-i.invariant ∙ first_wrong_turn field_count c.args.fields.now c.loop-i.i true c.loop-i-test.true c.if-not-goes-on.ensures)
+    sym (sym c.loop-i.invariant ∙ first_wrong_turn field_count c.args.fields.now c.loop-i.i true c.loop-i-test.true c.if-not-goes_on.ensures)
 
 pub returns : goal.returns
 returns c =

@@ -1,6 +1,6 @@
-use Rattle.std.proofs.Common.{◌≡◌, ℕ, [], length, Ok, Err, sym, refl, ap, ◌∙◌, arith, rules}
+use Rattle.std.proofs.Common.{◌≡◌, ℕ, length, sym, ap, arith, rules}
 use Rattle.fields.specs.Faults.{answer}
-use Rattle.fields.specs.Orders.{field_count, wrong_position, order_fault}
+use Rattle.fields.specs.Orders.{field_count, wrong_position}
 use Rattle.fields.proofs.EachOnce.{once_from_right, right_from_once}
 use Rattle.fields.proofs.orders.NetworkOrder.form.Goals as goal
 
@@ -14,7 +14,7 @@ returns-in-Some c =
       once = λ h. let r = right_from_once field_count c.args.fields size h in absurd (let z : ◌≡◌ {A = ℕ} 0 1 = cc in omega arith);
     }
 
-pub invariant-of-result : goal.invariant-of-result
-invariant-of-result c =
+pub invariant_of-result : goal.invariant_of-result
+invariant_of-result c =
     let size : length c.args.fields ≡ field_count = search rules in
-    (size, (once_from_right field_count c.args.fields size (sym c.in-default.ensures), tt))
+    record { size = size; once = once_from_right field_count c.args.fields size (sym c.in_default.ensures) }

@@ -1,7 +1,7 @@
 -- Flag masks that the same numbers satisfy are the same mask.
-use Rattle.std.proofs.Common.{◌≡◌, ℕ, zero, suc, ◌+◌, ◌-◌, ◌*◌, ◌/◌, ◌%◌, ◌^◌, ◌<◌, ◌≤◌, sym, refl, ap, ◌∙◌, subst, le_of_suc-le-suc, not-suc-le-zero, mod-lt, mod-eq_of_lt, zero-lt-suc, div-add-mod', arith}
+use Rattle.std.proofs.Common.{◌≡◌, ℕ, zero, suc, ◌-◌, ◌/◌, ◌%◌, ◌^◌, ◌<◌, ◌≤◌, sym, refl, ap, ◌∙◌, le_of_suc-le-suc, not-suc-le-zero, mod-lt, mod-eq_of_lt, zero-lt-suc, div-add-mod', arith}
 use lib.Arith.{bin_ind}
-use lib.Bits.{bit_and, bit_xor, and_shr, xor_shr, and_mod, xor_mod, and_zero_l, and_zero_r, and_comm, and_self, xor_self, xor_zero_r, xor_zero_l, xor_assoc, xor_lt, and_mask, and_le_l}
+use lib.Bits.{bit_and, bit_xor, and_shr, xor_shr, and_mod, xor_mod, and_comm, and_self, xor_self, xor_zero_r, xor_zero_l, xor_assoc, xor_lt, and_mask, and_le_l}
 
 by_digits : (a b : ℕ) → a / 2 ≡ b / 2 → a % 2 ≡ b % 2 → a ≡ b
 by_digits a b high low =

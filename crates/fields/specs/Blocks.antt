@@ -1,5 +1,5 @@
 -- The numbers that a prefix takes are a block: from its address on, as many as its other bits can write.
-use Rattle.std.proofs.Common.{◌≡◌, ℕ, suc, ◌+◌, ◌-◌, ◌*◌, ◌/◌, ◌%◌, ◌^◌, ◌<◌, ◌≤◌, sym, refl, ap, ◌∙◌, subst, mul-le-mul_right, mod-lt, suc-mul, div-add-mod', arith, pow_pos}
+use Rattle.std.proofs.Common.{◌≡◌, ℕ, suc, ◌+◌, ◌-◌, ◌*◌, ◌/◌, ◌%◌, ◌^◌, ◌<◌, ◌≤◌, ap, ◌∙◌, mul-le-mul_right, mod-lt, suc-mul, div-add-mod', arith, pow_pos}
 use Rattle.std.proofs.lemmas.Nat.{div-mul-add, pow-add, div_below}
 
 pub block_from_bits : (a k n : ℕ) → a % 2 ^ k ≡ 0 → n / 2 ^ k ≡ a / 2 ^ k → (a ≤ n) × (n < a + 2 ^ k)
