@@ -1,4 +1,6 @@
 // Tests of the engines on full tables, equal values, short lists and short tables.
+#![tactic(auto)]
+
 #[cfg(test)]
 mod tests {
     use engines::direct::Direct;

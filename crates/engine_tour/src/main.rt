@@ -1,4 +1,6 @@
 // A tour of the engines: a script of calls, one to a line, run on a scan engine and on the direct engine.
+#![tactic(auto)]
+
 mod script;
 
 use crate::script::{read, show};

@@ -1,3 +1,5 @@
+#![tactic(auto)]
+
 pub mod direct;
 pub mod engine;
 mod pairs;

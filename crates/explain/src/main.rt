@@ -1,4 +1,6 @@
 // Explains, line by line, whether a value takes a number and why, or why a value or a network order is refused.
+#![tactic(auto)]
+
 mod questions;
 mod reading;
 mod wording;

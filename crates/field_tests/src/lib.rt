@@ -1,4 +1,6 @@
 // What values, orders and words do at their edges.
+#![tactic(auto)]
+
 ghost use Rattle.std.specs.Prelude.{◌≡◌, true};
 ghost use Rattle.field_tests.specs.Figures.{Figures};
 

@@ -1,4 +1,6 @@
 // The figures that the definitions of values, orders, filters and the sieve give, in one place.
+#![tactic(auto)]
+
 ghost use Rattle.std.specs.Prelude.{◌≡◌, true};
 ghost use Rattle.figures.specs.Known.{Known};
 

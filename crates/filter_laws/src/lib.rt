@@ -1,2 +1,4 @@
+#![tactic(auto)]
+
 pub mod replays;
 pub mod sample;

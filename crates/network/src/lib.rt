@@ -1,3 +1,5 @@
+#![tactic(auto)]
+
 mod asks;
 pub mod network;
 pub mod search;

@@ -1,2 +1,4 @@
+#![tactic(auto)]
+
 pub mod marks;
 pub mod told;

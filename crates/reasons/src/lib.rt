@@ -1,2 +1,4 @@
+#![tactic(auto)]
+
 pub mod sides;
 pub mod why;

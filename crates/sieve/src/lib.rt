@@ -1,2 +1,4 @@
+#![tactic(auto)]
+
 pub mod counters;
 pub mod sieve_store;

@@ -1,3 +1,5 @@
+#![tactic(auto)]
+
 pub mod numbers;
 pub mod rows;
 pub mod spelled;

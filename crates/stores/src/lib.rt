@@ -1,3 +1,5 @@
+#![tactic(auto)]
+
 pub mod chain_store;
 mod chains;
 pub mod grid;

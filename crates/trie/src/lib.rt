@@ -1,3 +1,5 @@
+#![tactic(auto)]
+
 mod edit;
 mod nodes;
 pub mod tries;

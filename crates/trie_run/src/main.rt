@@ -1,4 +1,6 @@
 // Takes a trie engine through filling, emptying and filling again, and prints what it answers and how many nodes it uses.
+#![tactic(auto)]
+
 use engines::engine::Engine;
 use fields::faults::Fault;
 use fields::kinds::Kind;

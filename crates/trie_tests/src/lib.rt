@@ -1,4 +1,6 @@
 // The trie engine beside the scan engine: one list of calls, the same answers.
+#![tactic(auto)]
+
 #[cfg(test)]
 mod tests {
     use engine_runs::calls::{Answer, Call};

@@ -1,3 +1,5 @@
+#![tactic(auto)]
+
 pub mod cuts;
 pub mod decimals;
 pub mod hexadecimals;

@@ -1,5 +1,5 @@
 -- a label past the last place marks nothing
-use Rattle.std.proofs.Common.{◌≡◌, ℕ, true, Option, sym, ap, ◌∙◌, arith}
+use Rattle.std.proofs.Common.{ℕ, true, Option, sym, ap, ◌∙◌, arith}
 use Rattle.std.proofs.lemmas.List.{set_past}
 use Rattle.parts.specs.Marks.{mark_found}
 use Rattle.parts.proofs.marks.mark.Goals as goal

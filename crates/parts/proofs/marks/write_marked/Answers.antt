@@ -1,8 +1,6 @@
-use Rattle.std.proofs.Common.{◌≡◌, ℕ, ◌+◌, ◌<◌, ◌≤◌, Bool, true, false, ltb, List, length, get_or, take, set, sym, refl, ap, ◌∙◌, subst, arith, rules}
+use Rattle.std.proofs.Common.{◌≡◌, ℕ, ◌<◌, Bool, false, ltb, List, length, take, sym, refl, ap, ◌∙◌, subst, arith, rules}
 use Rattle.std.proofs.lemmas.List.{take_all}
 use Rattle.std.proofs.lemmas.Bool.{le-ltb}
-use Rattle.fields.specs.Faults.{answer, unless, when}
-use Rattle.fields.specs.declared.faults.Fault.TheVariants.{Short}
 use Rattle.parts.specs.Marks.{marked, over_start, ListsMarked}
 use Rattle.parts.proofs.Marked.{turn_set, turn_kept, marked_exactly, take_over}
 use Rattle.parts.proofs.marks.write_marked.Goals as goal
