@@ -63,7 +63,8 @@ def turn(crate):
             path = os.path.join(folder, file)
             if not os.path.exists(path):
                 continue
-            text = open(path, encoding="utf-8").read()
+            old = open(path, encoding="utf-8").read()
+            text = re.sub(r"\.-(?=[a-z])", "._", old)
             body = re.split(r"(^use [^\n]*\n)", text, flags=re.M)
 
             def one(m):
@@ -76,7 +77,7 @@ def turn(crate):
             new = "".join(
                 p if p.startswith("use ") and ".proofs." + ".".join(parts[1:-1]) + "." not in p else WORD.sub(one, p) for p in body
             )
-            if new != text:
+            if new != old:
                 open(path, "w", encoding="utf-8").write(new)
                 print("goal_names:", path)
 

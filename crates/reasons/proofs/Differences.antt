@@ -1,12 +1,12 @@
 -- The first bit in which a number differs from an address, from the zeros that their exclusive or begins with.
-use Rattle.std.proofs.Common.{◌≡◌, ℕ, suc, ◌+◌, ◌-◌, ◌*◌, ◌/◌, ◌^◌, ◌<◌, ◌≤◌, Bool, true, false, sym, refl, ap, ◌∙◌, subst, ⊎_elim, arith, pow_pos}
+use Rattle.std.proofs.Common.{◌≡◌, ℕ, suc, ◌+◌, ◌-◌, ◌/◌, ◌^◌, ◌<◌, ◌≤◌, false, sym, ap, ◌∙◌, subst, ⊎_elim, arith, pow_pos}
 use native.Mathlib.Nat.{div-eq_of_lt, pow-le-pow_right}
 use lib.Bits.{bit_xor, xor_shr, xor_lt, xor_self}
 use lib.Count.{count_leading_zeros}
 use Rattle.std.proofs.lemmas.Nat.{leading_top, le-div}
 use Rattle.std.proofs.lemmas.Bool.{cases_lt, both_ways, eq-eqb}
 use Rattle.fields.specs.declared.prefixes.PrefixRow.{PrefixRow}
-use Rattle.fields.specs.Prefixes.{first_bits, prefix_takes}
+use Rattle.fields.specs.Prefixes.{prefix_takes}
 use Rattle.fields.specs.Masks.{same_if_xor_zero}
 use Rattle.reasons.specs.Reasons.{FirstDifference}
 

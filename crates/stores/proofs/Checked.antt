@@ -1,10 +1,10 @@
 -- Refusals of a store: what is known where a call is refused, and where it is not.
-use Rattle.std.proofs.Common.{◌≡◌, ℕ, ◌+◌, ◌%◌, ◌^◌, ◌<◌, ◌≤◌, Bool, true, false, cond, ltb, ◌⊎◌, List, [], ◌∷◌, ◌++◌, length, get_or, Some, None, Ok, Err, Option, Result, sym, refl, ap, ◌∙◌, subst, inl, inr, ⊎_elim, arith, length-append}
+use Rattle.std.proofs.Common.{◌≡◌, ℕ, ◌+◌, ◌%◌, ◌^◌, ◌<◌, Bool, true, false, cond, ltb, List, [], ◌∷◌, ◌++◌, length, get_or, Some, None, Ok, Err, Option, sym, refl, ap, ◌∙◌, ⊎_elim, arith, length-append}
 use native.Mathlib.Nat.{mod-add-mod}
 use Rattle.std.proofs.lemmas.List.{get_or_past}
 use Rattle.std.proofs.lemmas.Bool.{cases_Bool, ltb-true, ltb-false}
 use Rattle.fields.specs.declared.faults.Fault.{Fault}
-use Rattle.fields.specs.declared.faults.Fault.TheVariants.{Label, Full, Elsewhere, Vacant}
+use Rattle.fields.specs.declared.faults.Fault.TheVariants.{Label, Full, Elsewhere}
 use Rattle.fields.specs.Faults.{answer, unless, when, first_fault}
 use Rattle.parts.specs.Meaning.{Meaning, find, full, label_fault, elsewhere, set_fault, taken, cleared, put, after_set}
 use Rattle.stores.specs.declared.pairs.Pair.{Pair}

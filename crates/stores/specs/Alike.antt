@@ -1,5 +1,5 @@
 -- Two pairs are the same exactly if both their labels are.
-use Rattle.std.specs.Prelude.{◌≡◌, ℕ, Decides}
+use Rattle.std.specs.Prelude.{◌≡◌, Decides}
 use Rattle.std.proofs.Common.{ap}
 use Rattle.std.proofs.lemmas.Bool.Decides.{Decides-and, Decides-eqb, Decides-like}
 use Rattle.stores.specs.declared.pairs.Pair.{Pair}

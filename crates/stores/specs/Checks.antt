@@ -1,5 +1,5 @@
 -- When a store refuses set and clear, told by what it read at the place and found for the pair.
-use Rattle.std.specs.Prelude.{ℕ, cond, List, [], ◌∷◌, Err, Option, Result, nat_lt}
+use Rattle.std.specs.Prelude.{ℕ, cond, [], ◌∷◌, Err, Option, Result, nat_lt}
 use Rattle.fields.specs.declared.faults.Fault.{Fault}
 use Rattle.fields.specs.declared.faults.Fault.TheVariants.{Label, Full}
 use Rattle.fields.specs.Faults.{when, first_fault}

@@ -1,12 +1,12 @@
 -- A chaining store's calls keep what it holds.
-use Rattle.std.specs.Prelude.{◌≡◌, ℕ, zero, suc, ◌+◌, ◌%◌, ◌^◌, ◌<◌, ◌≤◌, Bool, true, false, cond, List, [], ◌∷◌, map, length, set, replicate, Some, None, Option, slice_index_or, slice_set, refl}
-use Rattle.std.proofs.Common.{sym, ap, subst, ◌∙◌, mod-lt, arith, length-set}
+use Rattle.std.specs.Prelude.{◌≡◌, ℕ, zero, suc, ◌+◌, ◌%◌, ◌^◌, ◌<◌, ◌≤◌, List, [], ◌∷◌, length, set, replicate, Some, None, Option, slice_index_or, slice_set, refl}
+use Rattle.std.proofs.Common.{sym, ap, subst, ◌∙◌, arith, length-set}
 use Rattle.std.specs.Option.{option_map}
 use Rattle.std.proofs.lemmas.List.{map-set, length-replicate}
-use Rattle.parts.specs.Meaning.{Meaning, Proper, Single, find, nothing, put, asked_once}
+use Rattle.parts.specs.Meaning.{Meaning, Proper, find, nothing, put, asked_once}
 use Rattle.stores.specs.declared.pairs.Pair.{Pair}
 use Rattle.stores.specs.Pairs.{same_pair}
-use Rattle.stores.specs.Chains.{Linked, Chain, Chained, first_holding}
+use Rattle.stores.specs.Chains.{Linked, Chained, first_holding}
 use Rattle.stores.specs.Held.{Held, Walked, keys_of}
 use Rattle.stores.specs.Alike.{pair_decides}
 use Rattle.stores.specs.Finding.{none_some, find_none, single_put, single_clear}

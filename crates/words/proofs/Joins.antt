@@ -1,6 +1,5 @@
 -- Two words with a separator between them: where neither front has the separator, there is one way to cut.
-use Rattle.std.proofs.Common.{◌≡◌, ℕ, List, [], ◌∷◌, ◌++◌, Some, None, Option, sym, refl, ap, ◌∙◌, subst, arith}
-use Rattle.std.specs.List.{AllByRecursion as All}
+use Rattle.std.proofs.Common.{◌≡◌, ℕ, List, [], ◌∷◌, ◌++◌, Some, None, sym, refl, ap, ◌∙◌, subst, arith}
 use Rattle.words.specs.Texts.{joined}
 use Rattle.words.specs.Reading.{Reads, Free}
 

@@ -1,6 +1,6 @@
 -- Reading is said by writing: bytes are read as a value exactly if they are its text. So no value has two spellings, and
 -- none is what reading answers exactly if the bytes are the text of no value.
-use Rattle.std.specs.Prelude.{◌≡◌, ℕ, List, ◌∷◌, ◌++◌, Some, None, Option, ◌≢◌}
+use Rattle.std.specs.Prelude.{◌≡◌, ℕ, List, Some, Option, ◌≢◌}
 use Rattle.std.specs.List.{AllByRecursion as All}
 
 -- r is the value of those that fit whose text the bytes are

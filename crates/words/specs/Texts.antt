@@ -1,5 +1,5 @@
 -- How values are written: the one definition of the words of a line. A byte is its ASCII code.
-use Rattle.std.specs.Prelude.{ℕ, zero, suc, ◌+◌, ◌/◌, ◌%◌, ◌^◌, ◌<◌, ◌≤◌, cond, List, [], ◌∷◌, ◌++◌, decimal, nat_lt}
+use Rattle.std.specs.Prelude.{ℕ, zero, suc, ◌+◌, ◌/◌, ◌%◌, ◌^◌, ◌<◌, cond, List, [], ◌∷◌, ◌++◌, decimal, nat_lt}
 use Rattle.fields.specs.declared.prefixes.PrefixRow.{PrefixRow}
 use Rattle.fields.specs.declared.ranges.RangeRow.{RangeRow}
 use Rattle.fields.specs.declared.protocols.ProtocolRow.{ProtocolRow}

@@ -11,7 +11,7 @@ returns-then-holds g c xs lies =
     let v = c.args.value in
     let eq = g.V.Key.eq in
     let s = lies.size in
-    let held : c.formed.result ≡ get_or xs i None = held_at g.V.Kind.plain c.args.rows.now c.args.used.now.full c.args.used.now.top xs lies i c.is-full.result c.index-rows-label.result c.formed.result c.is-full.ensures c.index-rows-label.is c.formed.ensures.vacant c.formed.ensures.filled in
+    let held : c.formed.result ≡ get_or xs i None = held_at g.V.Kind.plain c.args.rows.now c.args.used.now.full c.args.used.now.top xs lies i c.is_full.result c.index-rows-label.result c.formed.result c.is_full.ensures c.index-rows-label.is c.formed.ensures.vacant c.formed.ensures.filled in
     let here : at eq v (get_or xs i None) ≡ true = sym (c.holds.ensures ∙ ap (at eq v) held) ∙ c.if-holds.true in
     sym (sym (c.loop-label.invariant xs lies) ∙ find_more eq v xs i (omega arith) ∙ ap (λ (b : Bool). cond b (Some i) (find_from eq v (i + 1) (drop (i + 1) xs))) here)
 
@@ -21,7 +21,7 @@ loop-label-preserved g c xs lies =
     let v = c.args.value in
     let eq = g.V.Key.eq in
     let s = lies.size in
-    let held : c.formed.result ≡ get_or xs i None = held_at g.V.Kind.plain c.args.rows.now c.args.used.now.full c.args.used.now.top xs lies i c.is-full.result c.index-rows-label.result c.formed.result c.is-full.ensures c.index-rows-label.is c.formed.ensures.vacant c.formed.ensures.filled in
+    let held : c.formed.result ≡ get_or xs i None = held_at g.V.Kind.plain c.args.rows.now c.args.used.now.full c.args.used.now.top xs lies i c.is_full.result c.index-rows-label.result c.formed.result c.is_full.ensures c.index-rows-label.is c.formed.ensures.vacant c.formed.ensures.filled in
     let other : at eq v (get_or xs i None) ≡ false = sym (c.holds.ensures ∙ ap (at eq v) held) ∙ c.if-holds.false in
     sym (find_more eq v xs i (omega arith) ∙ ap (λ (b : Bool). cond b (Some i) (find_from eq v (i + 1) (drop (i + 1) xs))) other) ∙ c.loop-label.invariant xs lies
 

@@ -19,7 +19,7 @@ loop-label-preserved g c =
       length-set marks i b ∙ inv.0,
       λ xs lies k h. ⊎_elim
           (λ (e : k ≡ i).
-          let held : c.formed.result ≡ get_or xs i None = held_at g.V.Kind.plain c.args.rows.now c.args.used.now.full c.args.used.now.top xs lies i c.is-full.result c.index-rows-label.result c.formed.result c.is-full.ensures c.index-rows-label.is c.formed.ensures.vacant c.formed.ensures.filled in
+          let held : c.formed.result ≡ get_or xs i None = held_at g.V.Kind.plain c.args.rows.now c.args.used.now.full c.args.used.now.top xs lies i c.is_full.result c.index-rows-label.result c.formed.result c.is_full.ensures c.index-rows-label.is c.formed.ensures.vacant c.formed.ensures.filled in
           ap (λ (j : ℕ). get_or (set marks i b) j false) e ∙ get_or-set_same marks i b false few ∙ c.hits.ensures
           ∙ ap (hit (λ (v : g.row.V.Denot). g.V.Kind.satisfied v n)) held ∙ ap (λ (j : ℕ). hit (λ (v : g.row.V.Denot). g.V.Kind.satisfied v n) (get_or xs j None)) (sym e))
           (λ (o : k ≡ i → ⊥). get_or-set_other marks i k b false o ∙ inv.1 xs lies k (omega arith))

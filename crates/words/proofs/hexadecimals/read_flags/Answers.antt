@@ -1,5 +1,5 @@
 use Rattle.std.proofs.Common.{refl, arith}
 use Rattle.words.proofs.hexadecimals.read_flags.Goals as goal
 
-pub overflow-cast-result : goal.overflow-cast-result
-overflow-cast-result c = let b = c.in-ok-n.ensures.back c.in-ok-n.n refl in omega (arith, b.0)
+pub overflow_cast-result : goal.overflow_cast-result
+overflow_cast-result c = let b = c.in_ok-n.ensures.back c.in_ok-n.n refl in omega (arith, b.0)

@@ -1,4 +1,4 @@
-use Rattle.std.proofs.Common.{◌≡◌, ℕ, ◌+◌, ◌*◌, ◌^◌, ◌<◌, ◌≤◌, List, length, take, sym, refl, ap, ◌∙◌, subst, arith}
+use Rattle.std.proofs.Common.{◌≡◌, ℕ, ◌^◌, ◌<◌, take, sym, refl, ap, ◌∙◌, subst, arith}
 use Rattle.std.proofs.lemmas.List.{take_all}
 use Rattle.words.specs.Texts.{hex}
 use Rattle.words.proofs.HexWords.{unequal_read, stuck_read, read_hex, hex_turn, hex_room}
@@ -10,26 +10,26 @@ returns-then-word-digits c = unequal_read c.args.digits c.args.word.now c.if-wor
 pub loop-byte-init : goal.loop-byte-init
 loop-byte-init c = (refl, omega arith)
 
-pub overflow-mul-number : goal.overflow-mul-number
-overflow-mul-number c =
+pub overflow_mul-number : goal.overflow_mul-number
+overflow_mul-number c =
     let r = hex_room c.loop-byte.byte-index c.loop-byte.number (omega arith) c.loop-byte.invariant.1 in
     omega arith
 
-pub returns-in-err-number : goal.returns-in-err-number
-returns-in-err-number c =
-    rw c.from-residual.ensures
-    (stuck_read c.args.digits c.args.word.now c.loop-byte.byte-index c.loop-byte-test.true c.in-err-number.ensures)
+pub returns-in_err-number : goal.returns-in_err-number
+returns-in_err-number c =
+    rw c.from_residual.ensures
+    (stuck_read c.args.digits c.args.word.now c.loop-byte.byte-index c.loop-byte-test.true c.in_err-number.ensures)
 
-pub overflow-add-number : goal.overflow-add-number
-overflow-add-number c =
+pub overflow_add-number : goal.overflow_add-number
+overflow_add-number c =
     let r = hex_room c.loop-byte.byte-index c.loop-byte.number (omega arith) c.loop-byte.invariant.1 in
-    let d = c.in-ok-number.ensures in
+    let d = c.in_ok-number.ensures in
     omega (arith, d.0)
 
 pub loop-byte-preserved : goal.loop-byte-preserved
 loop-byte-preserved c =
-    let d = c.in-ok-number.ensures in
-    hex_turn c.args.word.now c.loop-byte.byte-index c.loop-byte.number c.in-ok-number.field-0 c.loop-byte-test.true c.loop-byte.invariant.0 c.loop-byte.invariant.1 d.0 d.1
+    let d = c.in_ok-number.ensures in
+    hex_turn c.args.word.now c.loop-byte.byte-index c.loop-byte.number c.in_ok-number.field-0 c.loop-byte-test.true c.loop-byte.invariant.0 c.loop-byte.invariant.1 d.0 d.1
 
 pub returns : goal.returns
 returns c =

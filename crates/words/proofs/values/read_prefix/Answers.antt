@@ -2,24 +2,24 @@ use Rattle.words.proofs.Joins.{uncut_read, no_left, no_right, both_read}
 use Rattle.words.proofs.RowWords.{prefix-join}
 use Rattle.words.proofs.values.read_prefix.Goals as goal
 
-pub returns-in-err-front : goal.returns-in-err-front
+pub returns-in_err-front : goal.returns-in_err-front
 unfolding prefix-join
-returns-in-err-front c = rw c.from-residual.ensures (uncut_read prefix-join c.args.word.now c.in-err-front.ensures)
+returns-in_err-front c = rw c.from_residual.ensures (uncut_read prefix-join c.args.word.now c.in_err-front.ensures)
 
-pub returns-in-err-address : goal.returns-in-err-address
+pub returns-in_err-address : goal.returns-in_err-address
 unfolding prefix-join
-returns-in-err-address c =
-    rw c.from-residual-in-err-address.ensures
-    (no_left prefix-join c.args.word.now c.in-ok-front.front.now c.in-ok-front.rest.now c.in-ok-front.ensures c.in-err-address.ensures)
+returns-in_err-address c =
+    rw c.from_residual-in_err-address.ensures
+    (no_left prefix-join c.args.word.now c.in_ok-front.front.now c.in_ok-front.rest.now c.in_ok-front.ensures c.in_err-address.ensures)
 
-pub returns-in-err-length : goal.returns-in-err-length
+pub returns-in_err-length : goal.returns-in_err-length
 unfolding prefix-join
-returns-in-err-length c =
-    rw c.from-residual-in-err-length.ensures
-    (no_right prefix-join c.args.word.now c.in-ok-front.front.now c.in-ok-front.rest.now c.in-ok-front.ensures c.in-err-length.ensures)
+returns-in_err-length c =
+    rw c.from_residual-in_err-length.ensures
+    (no_right prefix-join c.args.word.now c.in_ok-front.front.now c.in_ok-front.rest.now c.in_ok-front.ensures c.in_err-length.ensures)
 
 pub returns : goal.returns
 unfolding prefix-join
 returns c =
-    both_read prefix-join c.args.word.now c.in-ok-front.front.now c.in-ok-front.rest.now c.in-ok-front.ensures
-    c.in-ok-address.address c.in-ok-length.length c.in-ok-address.ensures c.in-ok-length.ensures
+    both_read prefix-join c.args.word.now c.in_ok-front.front.now c.in_ok-front.rest.now c.in_ok-front.ensures
+    c.in_ok-address.address c.in_ok-length.length c.in_ok-address.ensures c.in_ok-length.ensures

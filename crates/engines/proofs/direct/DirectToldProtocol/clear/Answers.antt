@@ -22,14 +22,14 @@ returns-then-at-ge-PLACES c =
       asked = λ _ e. e;
     }
 
-pub returns-in-default : goal.returns-in-default
-returns-in-default c =
+pub returns-in_default : goal.returns-in_default
+returns-in_default c =
     let s = c.args.self.now in
     let l = c.args.place in
     let Shows : Meaning Protocol → Type 0 = Reached s.held s.any s.numbered s.asked in
     let none : (m : Meaning Protocol) → Shows m → None ≡ get_or m.places l None = λ m h.
     let n : length s.held ≡ 96 = sym (ap length h.places) ∙ h.proper.size in
-    sym (ap (λ (xs : List (Option Protocol)). get_or xs l None) h.places ∙ get_or_default s.held l None c.index-self-at.result (omega (arith, c.if-at-ge-PLACES.false)) ∙ c.in-default.is) in
+    sym (ap (λ (xs : List (Option Protocol)). get_or xs l None) h.places ∙ get_or_default s.held l None c.index-self-at.result (omega (arith, c.if-at-ge-PLACES.false)) ∙ c.in_default.is) in
     record {
       result = λ m h. sym (cleared_within m.places l None c.if-at-ge-PLACES.false (none m h));
       held = λ m h. subst Shows (kept_empty m l (sym (none m h))) h;

@@ -31,7 +31,7 @@ returns-in-Some c =
     let fault : (m : Meaning Protocol) → Shows m → set_fault eq labels m.places l v ≡ Some (Elsewhere k) = λ m h.
     let n : length s.held ≡ 96 = sym (ap length h.places) ∙ h.proper.size in
     let read : get_or s.held l None ≡ get_or s.held l c.index-self-at.result = get_or_default s.held l None c.index-self-at.result (omega (arith, c.if-at-ge-PLACES.false)) in
-    let free : full (get_or m.places l None) ≡ false = full_some (get_or m.places l None) false (ap (λ (xs : List (Option Protocol)). is_some (get_or xs l None)) h.places ∙ ap is_some read ∙ sym c.is-some.ensures ∙ c.if-is-some.false) in
+    let free : full (get_or m.places l None) ≡ false = full_some (get_or m.places l None) false (ap (λ (xs : List (Option Protocol)). is_some (get_or xs l None)) h.places ∙ ap is_some read ∙ sym c.is_some.ensures ∙ c.if-is_some.false) in
     let where' : find eq m.places v ≡ Some k = ap (λ (xs : List (Option Protocol)). find eq xs v) h.places ∙ found s.held s.any s.numbered h.names v ∙ ap (kept_label s.any s.numbered) (sym c.row-row.ensures) ∙ sym c.label.ensures ∙ c.in-Some.is in
     set_elsewhere eq labels m.places l v refl c.if-at-ge-PLACES.false k free where' in
     record {
@@ -53,8 +53,8 @@ returns c =
     let n : length s.held ≡ 96 = sym (ap length h.places) ∙ h.proper.size in omega (arith, c.if-at-ge-PLACES.false) in
     let empty : (m : Meaning Protocol) → Was m → get_or s.held l None ≡ None = λ m h.
     let read : get_or s.held l None ≡ get_or s.held l c.index-self-at.result = get_or_default s.held l None c.index-self-at.result (size m h) in
-    none_full_some (get_or s.held l None) (ap is_some read ∙ sym c.is-some.ensures ∙ c.if-is-some.false) in
-    let new : kept_label s.any s.numbered v.row ≡ None = ap (kept_label s.any s.numbered) (sym c.row-row.ensures) ∙ sym c.label.ensures ∙ c.in-default.is in
+    none_full_some (get_or s.held l None) (ap is_some read ∙ sym c.is_some.ensures ∙ c.if-is_some.false) in
+    let new : kept_label s.any s.numbered v.row ≡ None = ap (kept_label s.any s.numbered) (sym c.row-row.ensures) ∙ sym c.label.ensures ∙ c.in_default.is in
     let nowhere : (m : Meaning Protocol) → Was m → find eq m.places v ≡ None = λ m h.
     ap (λ (xs : List (Option Protocol)). find eq xs v) h.places ∙ found s.held s.any s.numbered h.names v ∙ new in
     let fault : (m : Meaning Protocol) → Was m → set_fault eq labels m.places l v ≡ None = λ m h.

@@ -20,13 +20,13 @@ returns-then-at-ge-PLACES g c =
       rest = refl;
     }
 
-pub returns-in-default : goal.returns-in-default
-returns-in-default g c =
+pub returns-in_default : goal.returns-in_default
+returns-in_default g c =
     let s = c.args.self.now in
     let l = c.args.place in
     let Shows : Meaning g.row.V.Denot → Type 0 = Scanned g.V.Kind.plain (g.T.Rows.items s.table) s.used.full s.used.top s.asked in
     let none : (m : Meaning g.row.V.Denot) → Shows m → None ≡ get_or m.places l None = λ m h.
-    sym c.in-default.is ∙ c.held.ensures m.places (subst (λ (rows : List g.row.R.Denot). Lies g.V.Kind.plain rows s.used.full s.used.top m.places) (sym c.rows.ensures.value) h.lies) in
+    sym c.in_default.is ∙ c.held.ensures m.places (subst (λ (rows : List g.row.R.Denot). Lies g.V.Kind.plain rows s.used.full s.used.top m.places) (sym c.rows.ensures.value) h.lies) in
     record {
       result = λ m h. sym (cleared_within m.places l None c.if-at-ge-PLACES.false (none m h));
       held = λ m h. subst Shows (kept_empty m l (sym (none m h))) h;

@@ -10,14 +10,14 @@ use Rattle.engines.proofs.Lying.{lies_set}
 use Rattle.engines.proofs.Meanings.{set_full, set_free, proper_set}
 use Rattle.engines.proofs.scan.ScanTold.set.Goals as goal
 
-pub returns-then-is-full : goal.returns-then-is-full
-returns-then-is-full g c =
+pub returns-then-is_full : goal.returns-then-is_full
+returns-then-is_full g c =
     let s = c.args.self.now in
     let l = c.args.place in
     let v = c.args.value in
     let Shows : Meaning g.row.V.Denot → Type 0 = Scanned g.V.Kind.plain (g.T.Rows.items s.table) s.used.full s.used.top s.asked in
     let fault : (m : Meaning g.row.V.Denot) → Shows m → set_fault g.V.Key.eq g.V.Key.labels m.places l v ≡ Some (Full l) = λ m h.
-    let f = h.lies.filled l (sym c.if-is-full.ensures) in
+    let f = h.lies.filled l (sym c.if-is_full.ensures) in
     set_full g.V.Key.eq g.V.Key.labels m.places l v (g.met.V.Kind.unlabelled v) c.if-at-ge-PLACES.false (ap full f.1) in
     record {
       result = λ m h. sym (ap (λ (o : Option Fault). answer o tt) (fault m h));
@@ -39,9 +39,9 @@ returns g c =
     let Was : Meaning g.row.V.Denot → Type 0 = Scanned plain (g.T.Rows.items s.table) s.used.full s.used.top s.asked in
     let Is : Meaning g.row.V.Denot → Type 0 = Scanned plain (g.T.Rows.items t) u.full u.top s.asked in
     let new : (m : Meaning g.row.V.Denot) → Was m → find eq m.places v ≡ None = λ m h.
-    sym (c.place-of.ensures m.places (subst (λ (rows : List g.row.R.Denot). Lies plain rows s.used.full s.used.top m.places) (sym c.rows.ensures.value) h.lies)) ∙ c.in-default.is in
+    sym (c.place_of.ensures m.places (subst (λ (rows : List g.row.R.Denot). Lies plain rows s.used.full s.used.top m.places) (sym c.rows.ensures.value) h.lies)) ∙ c.in_default.is in
     let fault : (m : Meaning g.row.V.Denot) → Was m → set_fault eq g.V.Key.labels m.places l v ≡ None = λ m h.
-    set_free eq g.V.Key.labels m.places l v (g.met.V.Kind.unlabelled v) c.if-at-ge-PLACES.false (ap full (h.lies.vacant l (sym c.if-is-full.ensures))) (new m h) in
+    set_free eq g.V.Key.labels m.places l v (g.met.V.Kind.unlabelled v) c.if-at-ge-PLACES.false (ap full (h.lies.vacant l (sym c.if-is_full.ensures))) (new m h) in
     let rows : g.T.Rows.items t ≡ set (g.T.Rows.items s.table) l (plain v) = c.put.ensures ∙ ap (set (g.T.Rows.items s.table) l) c.row.ensures in
     let after : (m : Meaning g.row.V.Denot) → Was m → Is (put m l (Some v)) = λ m h.
     let idle : Idle (set s.used.full l true) u.top = subst (λ (f : List Bool). Idle f u.top) c.fill.ensures.filled (c.fill.ensures.idle h.lies.above) in

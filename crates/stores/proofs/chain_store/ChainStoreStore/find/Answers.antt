@@ -1,7 +1,7 @@
-use Rattle.std.proofs.Common.{◌≡◌, ℕ, ◌+◌, ◌%◌, ◌^◌, true, false, List, [], ◌∷◌, Some, None, Option, sym, refl, ap, ◌∙◌, subst}
+use Rattle.std.proofs.Common.{◌≡◌, ◌+◌, ◌%◌, ◌^◌, false, [], ◌∷◌, None, Option, sym, refl, ap, ◌∙◌, subst}
 use Rattle.std.proofs.lemmas.Bool.{both_ways}
 use Rattle.fields.specs.declared.faults.Fault.{Fault}
-use Rattle.fields.specs.Faults.{answer, unless}
+use Rattle.fields.specs.Faults.{unless}
 use Rattle.parts.specs.Meaning.{Meaning, find, label_fault, asked_once}
 use Rattle.stores.specs.declared.pairs.Pair.{Pair}
 use Rattle.stores.specs.Pairs.{pair, same_pair}
@@ -15,7 +15,7 @@ returns g c =
     let key = g.K.ChainKey.key in
     let s = c.args.self.now in
     let v = pair c.args.left c.args.right in
-    let none : label_fault (c.args.left ∷ c.args.right ∷ []) ≡ None = answer_ok (label_fault (c.args.left ∷ c.args.right ∷ [])) tt tt (sym c.check-labels.ensures ∙ c.in-ok-check-labels.was) in
+    let none : label_fault (c.args.left ∷ c.args.right ∷ []) ≡ None = answer_ok (label_fault (c.args.left ∷ c.args.right ∷ [])) tt tt (sym c.check_labels.ensures ∙ c.in_ok-check_labels.was) in
     record {
       result = λ m h. accepted_find (label_fault (c.args.left ∷ c.args.right ∷ [])) none c.walk-found.result (find same_pair m.places v) (c.walk-found.ensures.found m h);
       held = λ m h. subst (λ (n : Meaning Pair). Held key s.chains.heads s.chains.nexts s.pairs ((s.asked + 1) % 2 ^ 32) n) (sym (ap (λ (o : Option Fault). unless o m (asked_once m)) none))

@@ -1,7 +1,7 @@
-use Rattle.std.proofs.Common.{◌≡◌, ℕ, ◌+◌, ◌<◌, ◌≤◌, true, false, eqb, List, [], ◌∷◌, ◌++◌, length, get_or, Some, None, Option, sym, refl, ap, ◌∙◌, subst, append_assoc, arith}
+use Rattle.std.proofs.Common.{◌≡◌, ℕ, eqb, List, [], ◌∷◌, ◌++◌, length, Option, sym, refl, ap, ◌∙◌, subst, append_assoc, arith}
 use Rattle.std.proofs.lemmas.Bool.{both_ways}
 use Rattle.std.proofs.lemmas.Bool.Decides.{Decides-eqb}
-use Rattle.stores.specs.Chains.{Linked, times}
+use Rattle.stores.specs.Chains.{Linked}
 use Rattle.stores.specs.Finding.{at_held, held_at}
 use Rattle.stores.specs.Chaining.{seek_end, seek_all, seek_here, seek_on}
 use Rattle.stores.proofs.chains.Chains.place_before.Goals as goal
@@ -9,15 +9,15 @@ use Rattle.stores.proofs.chains.Chains.place_before.Goals as goal
 pub loop-turn-init : goal.loop-turn-init
 loop-turn-init c ps l few has other = ([], ps, refl, l, omega arith, has, other)
 
-pub returns-in-default : goal.returns-in-default
-returns-in-default c ps l few has other =
+pub returns-in_default : goal.returns-in_default
+returns-in_default c ps l few has other =
     let r = c.loop-turn.invariant ps l few has other in
-    absurd (seek_end c.args.self.now.nexts c.args.place r.1 (subst (λ (o : Option ℕ). Linked c.args.self.now.nexts o r.1) c.in-default.is r.3) r.5)
+    absurd (seek_end c.args.self.now.nexts c.args.place r.1 (subst (λ (o : Option ℕ). Linked c.args.self.now.nexts o r.1) c.in_default.is r.3) r.5)
 
-pub returns-then-leads-to : goal.returns-then-leads-to
-returns-then-leads-to c ps l few has other =
+pub returns-then-leads_to : goal.returns-then-leads_to
+returns-then-leads_to c ps l few has other =
     let r = c.loop-turn.invariant ps l few has other in
-    let next = sym c.entry-at-next.ensures ∙ at_held eqb Decides-eqb c.args.place c.entry-at-next.result (sym c.if-leads-to.ensures) in
+    let next = sym c.entry_at-next.ensures ∙ at_held eqb Decides-eqb c.args.place c.entry_at-next.result (sym c.if-leads_to.ensures) in
     let b = seek_here c.args.self.now.nexts c.args.place c.in-Some.here r.1 (subst (λ (o : Option ℕ). Linked c.args.self.now.nexts o r.1) c.in-Some.is r.3) next in
     (r.0, c.in-Some.here, b.0, r.2 ∙ ap (λ (qs : List ℕ). r.0 ++ qs) b.1, refl)
 
@@ -32,13 +32,13 @@ loop-turn-preserved c ps l few has other =
       r.0 ++ h ∷ [],
       b.0,
       r.2 ∙ ap (λ (qs : List ℕ). r.0 ++ qs) b.1 ∙ sym (append_assoc r.0 (h ∷ []) b.0),
-      subst (λ (o : Option ℕ). Linked ns o b.0) (sym c.entry-at-next.ensures) b.2,
+      subst (λ (o : Option ℕ). Linked ns o b.0) (sym c.entry_at-next.ensures) b.2,
       omega (arith, r.4),
       b.3,
-      λ e. both_ways c.leads-to.result c.if-leads-to.false (c.leads-to.ensures ∙ held_at eqb Decides-eqb p c.entry-at-next.result e),
+      λ e. both_ways c.leads_to.result c.if-leads_to.false (c.leads_to.ensures ∙ held_at eqb Decides-eqb p c.entry_at-next.result e),
     )
 
 pub returns : goal.returns
 returns c ps l few has other =
     let r = c.loop-turn.invariant ps l few has other in
-    absurd (seek_all c.args.place r.1 c.loop-turn.-turn r.4 c.loop-turn-test.false r.5)
+    absurd (seek_all c.args.place r.1 c.loop-turn._turn r.4 c.loop-turn-test.false r.5)

@@ -1,7 +1,7 @@
-use Rattle.std.proofs.Common.{◌≡◌, ℕ, ◌+◌, ◌%◌, ◌^◌, true, false, List, [], ◌∷◌, Some, None, Option, sym, refl, ap, ◌∙◌, subst}
+use Rattle.std.proofs.Common.{◌≡◌, ◌+◌, ◌%◌, ◌^◌, false, [], ◌∷◌, None, Option, sym, refl, ap, ◌∙◌, subst}
 use Rattle.std.proofs.lemmas.Bool.{both_ways}
 use Rattle.fields.specs.declared.faults.Fault.{Fault}
-use Rattle.fields.specs.Faults.{answer, unless}
+use Rattle.fields.specs.Faults.{unless}
 use Rattle.parts.specs.Meaning.{Meaning, find, label_fault, asked_once}
 use Rattle.stores.specs.declared.pairs.Pair.{Pair}
 use Rattle.stores.specs.Pairs.{pair, same_pair}
@@ -14,13 +14,13 @@ pub returns : goal.returns
 returns c =
     let s = c.args.self.now in
     let v = pair c.args.left c.args.right in
-    let none : label_fault (c.args.left ∷ c.args.right ∷ []) ≡ None = answer_ok (label_fault (c.args.left ∷ c.args.right ∷ [])) tt tt (sym c.check-labels.ensures ∙ c.in-ok-check-labels.was) in
+    let none : label_fault (c.args.left ∷ c.args.right ∷ []) ≡ None = answer_ok (label_fault (c.args.left ∷ c.args.right ∷ [])) tt tt (sym c.check_labels.ensures ∙ c.in_ok-check_labels.was) in
     record {
-      result = λ m h. accepted_find (label_fault (c.args.left ∷ c.args.right ∷ [])) none c.look-up-found.result (find same_pair m.places v) (c.look-up-found.ensures.found m h (labels_within v none));
+      result = λ m h. accepted_find (label_fault (c.args.left ∷ c.args.right ∷ [])) none c.look_up-found.result (find same_pair m.places v) (c.look_up-found.ensures.found m h (labels_within v none));
       held = λ m h. subst (λ (n : Meaning Pair). Celled s.cells s.pairs ((s.asked + 1) % 2 ^ 32) n) (sym (ap (λ (o : Option Fault). unless o m (asked_once m)) none))
           (celled_asked s.cells s.pairs s.asked m h);
       asked = λ l e. asked_more l s.asked v e;
       refused = λ f e. absurd (not_refused (label_fault (c.args.left ∷ c.args.right ∷ [])) none f e);
       kept = λ e. absurd (both_ways false refl e);
-      below = c.look-up-found.ensures.below;
+      below = c.look_up-found.ensures.below;
     }
