@@ -1,11 +1,8 @@
 -- Where a value is held, and what refuses to set it.
-use Rattle.std.proofs.Common.{◌≡◌, ℕ, zero, suc, ◌+◌, ◌<◌, ◌≤◌, Bool, true, false, cond, ltb, List, [], ◌∷◌, length, get_or, drop, set, Some, None, Decides, Option, sym, refl, ap, ◌∙◌, subst, ⊎_elim, arith, length-set}
-use Rattle.std.proofs.lemmas.List.{at_drop_more, get_or-drop, get_or-set_same, get_or-set_other, get_or_past}
-use Rattle.std.proofs.lemmas.Bool.{cases_Bool, cases_eq, cases_lt, le-ltb}
-use Rattle.fields.specs.declared.faults.Fault.{Fault}
-use Rattle.fields.specs.declared.faults.Fault.TheVariants.{Label, Full, Elsewhere}
-use Rattle.fields.specs.Faults.{first_fault, when}
-use Rattle.parts.specs.Meaning.{Meaning, Proper, Single, meaning, put, at, find, find_from, full, elsewhere, label_fault, set_fault, place_count, asked_once}
+use Rattle.std.proofs.Common.{◌≡◌, ℕ, zero, suc, ◌+◌, ◌<◌, Bool, true, false, cond, List, [], ◌∷◌, length, get_or, drop, Some, None, Decides, Option, sym, refl, ap, ◌∙◌, subst, ⊎_elim, arith}
+use Rattle.std.proofs.lemmas.List.{at_drop_more}
+use Rattle.std.proofs.lemmas.Bool.{cases_Bool}
+use Rattle.parts.specs.Meaning.{at, find, find_from}
 
 pub apart : {V : Type 0} (v : V) → Some v ≡ None → ⊥
 apart v e = let z : ◌≡◌ {A = ℕ} 0 1 = cc in omega arith

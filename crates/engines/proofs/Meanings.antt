@@ -1,12 +1,12 @@
 -- What the calls leave of a meaning: 96 places, no value at two of them.
-use Rattle.std.proofs.Common.{◌≡◌, ℕ, ◌+◌, ◌%◌, ◌^◌, ◌<◌, ◌≤◌, Bool, true, false, cond, ltb, ◌⊎◌, List, [], ◌∷◌, ◌++◌, length, get_or, set, replicate, Some, None, Ok, Err, Decides, Option, Result, sym, refl, ap, ◌∙◌, subst, inl, inr, ⊎_elim, mod-lt, arith, length-append, length-set}
+use Rattle.std.proofs.Common.{◌≡◌, ℕ, ◌+◌, ◌%◌, ◌^◌, ◌<◌, ◌≤◌, Bool, true, false, cond, ◌⊎◌, List, [], ◌∷◌, ◌++◌, length, get_or, set, replicate, Some, None, Ok, Err, Decides, Option, sym, refl, ap, ◌∙◌, subst, inl, inr, ⊎_elim, mod-lt, arith, length-append, length-set}
 use native.Mathlib.Nat.{mod-add-mod}
 use Rattle.std.proofs.lemmas.List.{get_or-set_same, get_or-set_other, get_or_past, get_or-replicate, set-get_or, length-replicate}
 use Rattle.std.proofs.lemmas.Bool.{cases_eq, cases_lt, le-ltb, lt-ltb}
 use Rattle.fields.specs.declared.faults.Fault.{Fault}
 use Rattle.fields.specs.declared.faults.Fault.TheVariants.{Label, Full, Elsewhere, Short}
 use Rattle.fields.specs.Faults.{answer, first_fault, unless, when}
-use Rattle.parts.specs.Meaning.{Meaning, Proper, Single, meaning, nothing, put, find, full, elsewhere, label_fault, set_fault, cleared, taken, asked_once, list_fault}
+use Rattle.parts.specs.Meaning.{Meaning, Proper, meaning, nothing, put, find, full, elsewhere, label_fault, set_fault, cleared, taken, asked_once, list_fault}
 use Rattle.engines.proofs.Finding.{apart, find_absent}
 
 -- no place of an empty meaning holds a value

@@ -1,14 +1,14 @@
 -- The labels that the direct engine keeps.
-use Rattle.std.proofs.Common.{◌≡◌, ℕ, ◌+◌, ◌^◌, ◌<◌, ◌≤◌, min, max, Bool, true, false, cond, eqb, ltb, ◌⊎◌, List, [], ◌∷◌, map, length, get_or, set, replicate, is_some, Some, None, Option, sym, refl, ap, ◌∙◌, subst, inl, inr, ⊎_elim, arith}
+use Rattle.std.proofs.Common.{◌≡◌, ℕ, ◌+◌, ◌<◌, ◌≤◌, min, max, Bool, true, false, cond, ◌⊎◌, List, [], ◌∷◌, map, length, get_or, set, replicate, is_some, Some, None, Option, sym, refl, ap, ◌∙◌, subst, inl, inr, ⊎_elim, arith}
 use Rattle.std.proofs.lemmas.List.{get_or-set_same, get_or-set_other, get_or_past}
-use Rattle.std.proofs.lemmas.Bool.{both_ways, cases_Bool, cases_eq, cases_lt, cases_order, eqb-true, eq-eqb, lt-ltb, ltb-true, false≢true}
+use Rattle.std.proofs.lemmas.Bool.{both_ways, cases_Bool, cases_eq, cases_lt, cases_order, eqb-true, eq-eqb, lt-ltb, false≢true}
 use Rattle.fields.specs.declared.protocols.Protocol.{Protocol}
 use Rattle.fields.specs.declared.protocols.ProtocolRow.{ProtocolRow}
 use Rattle.fields.specs.declared.protocols.ProtocolRow.TheVariants.{Any, Only}
 use Rattle.fields.specs.Protocols.{fits_byte, protocol_takes, same_protocol}
 use Rattle.fields.proofs.Values.{protocol_decides, protocol_from_row}
 use Rattle.parts.specs.Meaning.{find, full}
-use Rattle.parts.specs.Marks.{hit, labels_of, marked}
+use Rattle.parts.specs.Marks.{hit, labels_of}
 use Rattle.engines.specs.Rising.{rising}
 use Rattle.engines.specs.Numbers.{kept_label, Names}
 use Rattle.engines.proofs.Finding.{apart, find_index}

@@ -1,5 +1,5 @@
-use Rattle.std.proofs.Common.{◌≡◌, ℕ, ◌+◌, ◌<◌, ◌≤◌, Bool, true, false, cond, List, length, get_or, drop, Some, None, Option, sym, refl, ap, ◌∙◌, arith}
-use Rattle.parts.specs.Meaning.{at, find, find_from}
+use Rattle.std.proofs.Common.{◌≡◌, ◌+◌, ◌≤◌, Bool, true, false, cond, get_or, drop, Some, None, sym, refl, ap, ◌∙◌, arith}
+use Rattle.parts.specs.Meaning.{at, find_from}
 use Rattle.engines.proofs.Finding.{find_more}
 use Rattle.engines.proofs.Lying.{held_at, nothing_found}
 use Rattle.engines.proofs.searches.place_of.Goals as goal

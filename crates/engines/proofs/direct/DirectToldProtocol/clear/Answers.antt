@@ -1,10 +1,10 @@
-use Rattle.std.proofs.Common.{◌≡◌, ℕ, ◌<◌, ◌≤◌, Bool, true, false, cond, List, length, get_or, set, Some, None, Option, sym, refl, ap, ◌∙◌, subst, arith}
+use Rattle.std.proofs.Common.{◌≡◌, ◌<◌, cond, List, length, get_or, set, Some, None, Option, sym, refl, ap, ◌∙◌, subst, arith}
 use Rattle.std.proofs.lemmas.List.{get_or_past, get_or_default}
 use Rattle.std.proofs.lemmas.Bool.{false≢true}
 use Rattle.fields.specs.declared.protocols.Protocol.{Protocol}
 use Rattle.fields.specs.declared.protocols.ProtocolRow.{ProtocolRow}
 use Rattle.fields.specs.Protocols.{same_protocol}
-use Rattle.parts.specs.Meaning.{Meaning, put}
+use Rattle.parts.specs.Meaning.{Meaning}
 use Rattle.engines.specs.Numbers.{Names, Reached, kept_label}
 use Rattle.engines.proofs.Meanings.{cleared_past, cleared_within, kept_empty, proper_clear}
 use Rattle.engines.proofs.Reaching.{names_clear}

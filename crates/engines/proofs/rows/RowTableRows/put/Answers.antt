@@ -1,5 +1,5 @@
 -- past the last row nothing is put
-use Rattle.std.proofs.Common.{sym, arith}
+use Rattle.std.proofs.Common.{sym}
 use Rattle.std.proofs.lemmas.List.{set_past}
 use Rattle.engines.proofs.rows.RowTableRows.put.Goals as goal
 

@@ -1,7 +1,7 @@
-use Rattle.std.proofs.Common.{◌≡◌, ℕ, ◌<◌, ◌≤◌, Bool, true, false, List, length, get_or, set, Some, None, Option, sym, refl, ap, ◌∙◌, subst, arith}
+use Rattle.std.proofs.Common.{◌≡◌, Bool, false, List, get_or, set, Some, None, sym, refl, ◌∙◌, subst, arith}
 use Rattle.std.proofs.lemmas.List.{get_or_past}
 use Rattle.std.proofs.lemmas.Bool.{false≢true}
-use Rattle.parts.specs.Meaning.{Meaning, put}
+use Rattle.parts.specs.Meaning.{Meaning}
 use Rattle.engines.specs.Tables.{Idle, Lies, Scanned}
 use Rattle.engines.proofs.Lying.{lies_clear}
 use Rattle.engines.proofs.Meanings.{cleared_past, cleared_within, kept_empty, proper_clear}

@@ -1,4 +1,4 @@
-use Rattle.std.proofs.Common.{◌≡◌, ℕ, ◌≤◌, List, length, refl, ap, subst}
+use Rattle.std.proofs.Common.{◌≤◌, List, length, refl, subst}
 use Rattle.engines.proofs.Lying.{lies_none}
 use Rattle.engines.proofs.Meanings.{proper_nothing}
 use Rattle.engines.proofs.scan.ScanTold.empty.Goals as goal
