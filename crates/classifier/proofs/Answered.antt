@@ -15,7 +15,7 @@ use Rattle.filters.specs.Scans.{first}
 use Rattle.filters.specs.Labels.{of_identifier}
 use Rattle.filters.specs.Answers.{Reply, replies, answer as list_answer}
 use Rattle.filters.proofs.Checks.{fault_append, formed_err}
-use Rattle.row_lists.proofs.Places.{before_le, some_before, put_is, without_is}
+use Rattle.filter_table.proofs.Places.{before_le, some_before, put_is, without_is}
 use Rattle.entries.specs.Entries.{Entry, row_of}
 
 -- a refused call

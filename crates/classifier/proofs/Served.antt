@@ -15,8 +15,8 @@ use Rattle.stores.specs.declared.pairs.Pair.{Pair}
 use Rattle.filters.specs.declared.rows.FilterRow.{FilterRow}
 use Rattle.filters.specs.declared.filter.Filter.{Filter}
 use Rattle.filters.specs.Standing.{capacity}
-use Rattle.row_lists.specs.Shifts.{opened, closed, taken}
-use Rattle.row_lists.proofs.Shifting.{opened_held, opened_size, closed_held, closed_size}
+use Rattle.filter_table.specs.Shifts.{opened, closed, taken}
+use Rattle.filter_table.proofs.Shifting.{opened_held, opened_size, closed_held, closed_size}
 use Rattle.labels.proofs.Tables.{all_insert, all_delete}
 use Rattle.columns.specs.Fields.{Placed, placed, Stand, fresh, ToldColumns}
 use Rattle.network.specs.Nodes.{Filed, filed, First, Nodes, Untold, AsksKept, arranged, fresh as fresh_nodes}

@@ -3,7 +3,7 @@ use columns::columns::Columns;
 use entries::labels::FilterLabels;
 use filter_table::table::FilterTable;
 use network::network::Network;
-use row_lists::shifts::CAPACITY;
+use filter_table::shifts::CAPACITY;
 use stores::store::Store;
 
 pub mod edits;

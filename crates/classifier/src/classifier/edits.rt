@@ -21,7 +21,7 @@ use fields::protocols::Protocol;
 use fields::ranges::PortRange;
 use filters::filter::Filter;
 use filters::rows::FilterRow;
-use row_lists::shifts::{insert_at, remove_at};
+use filter_table::shifts::{insert_at, remove_at};
 use stores::store::Store;
 
 impl<

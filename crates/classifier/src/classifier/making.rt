@@ -15,7 +15,7 @@ use fields::protocols::Protocol;
 use fields::ranges::PortRange;
 use filter_table::table::FilterTable;
 use network::network::Network;
-use row_lists::shifts::CAPACITY;
+use filter_table::shifts::CAPACITY;
 use stores::pairs::Pair;
 use stores::store::Store;
 

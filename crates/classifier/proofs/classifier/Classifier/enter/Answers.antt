@@ -1,7 +1,7 @@
 use Rattle.std.proofs.Common.{◌≡◌, ℕ, ◌+◌, ◌<◌, ◌≤◌, List, [], ◌∷◌, ◌++◌, map, length, get_or, take, drop, sym, refl, ap, ◌∙◌, subst, arith, rules}
 use Rattle.columns.specs.Fields.{Placed, Stand}
 use Rattle.network.specs.Nodes.{Filed, Nodes}
-use Rattle.row_lists.specs.Shifts.{opened}
+use Rattle.filter_table.specs.Shifts.{opened}
 use Rattle.entries.specs.declared.labels.FilterLabels.{FilterLabels}
 use Rattle.entries.specs.Entries.{Entry, in_columns, in_network}
 use Rattle.classifier.proofs.Served.{came, few_cut, cut_by}

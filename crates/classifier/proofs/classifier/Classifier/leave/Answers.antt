@@ -2,7 +2,7 @@ use Rattle.std.proofs.Common.{◌≡◌, ℕ, ◌+◌, ◌<◌, ◌≤◌, List,
 use Rattle.labelling.proofs.Tells.{some_same}
 use Rattle.columns.specs.Fields.{Placed, placed, Stand}
 use Rattle.network.specs.Nodes.{Filed, filed, arranged, Nodes, Untold, fresh as fresh_nodes}
-use Rattle.row_lists.specs.Shifts.{closed, taken}
+use Rattle.filter_table.specs.Shifts.{closed, taken}
 use Rattle.entries.specs.declared.labels.FilterLabels.{FilterLabels}
 use Rattle.entries.specs.Entries.{Entry, in_columns, in_network}
 use Rattle.classifier.proofs.Served.{gone, labels_out, parted_by}
