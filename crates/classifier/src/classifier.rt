@@ -1,9 +1,9 @@
 // The classifier: the standing filters in rank order with their labels, six engines and five nodes.
 use columns::columns::Columns;
 use entries::labels::FilterLabels;
+use filter_table::shifts::CAPACITY;
 use filter_table::table::FilterTable;
 use network::network::Network;
-use filter_table::shifts::CAPACITY;
 use stores::store::Store;
 
 pub mod edits;

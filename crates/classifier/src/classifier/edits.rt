@@ -19,9 +19,9 @@ use fields::kinds::Kind;
 use fields::prefixes::Prefix;
 use fields::protocols::Protocol;
 use fields::ranges::PortRange;
+use filter_table::shifts::{insert_at, remove_at};
 use filters::filter::Filter;
 use filters::rows::FilterRow;
-use filter_table::shifts::{insert_at, remove_at};
 use stores::store::Store;
 
 impl<

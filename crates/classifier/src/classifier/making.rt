@@ -13,9 +13,9 @@ use fields::orders::{FIELDS, NetworkOrder};
 use fields::prefixes::Prefix;
 use fields::protocols::Protocol;
 use fields::ranges::PortRange;
+use filter_table::shifts::CAPACITY;
 use filter_table::table::FilterTable;
 use network::network::Network;
-use filter_table::shifts::CAPACITY;
 use stores::pairs::Pair;
 use stores::store::Store;
 

@@ -23,13 +23,13 @@ use Rattle.classifier.specs.Telling.{Told, Came, Gone}
 use Rattle.classifier.proofs.Answered.{refused_answer, accepted_answer, refused_add, refused_remove, accepted_add_list, accepted_remove_list, answered_err, answered_ok, some_or_none, unformed, rank_within, put_entry, Parted, parted}
 use Rattle.classifier.proofs.classifier.Classifier.add.Goals as goal
 
-pub returns-in-err-filter : goal.returns-in-err-filter
-returns-in-err-filter g c =
-    let p = err_from_is_err_and c.from-residual.result c.from-residual.ensures.1 in
+pub returns-in_err-filter : goal.returns-in_err-filter
+returns-in_err-filter g c =
+    let p = err_from_is_err_and c.from_residual.result c.from_residual.ensures.1 in
     let q = p.2 in
-    let is : c.in-err-filter.field-0.0 ≡ p.0 = cc in
+    let is : c.in_err-filter.field-0.0 ≡ p.0 = cc in
     let row = c.args.row in
-    let fault : row_fault row ≡ Some p.0 = formed_err plain (row_fault row) c.in-err-filter.field-0.0 row c.in-err-filter.ensures ∙ ap Some is in
+    let fault : row_fault row ≡ Some p.0 = formed_err plain (row_fault row) c.in_err-filter.field-0.0 row c.in_err-filter.ensures ∙ ap Some is in
     record {
       answer = λ fs asked h. ap (answer_by (λ (n : ℕ × ℕ). added n.0 n.1)) p.1 ∙ refused_answer (λ (n : ℕ × ℕ). added n.0 n.1) c.args.self.now.network.order.fields fs (Add row) p.0 (unformed fs row p.0 fault);
       stands = λ fs asked h. subst (λ (gs : List FilterRow). Stands g.A.Told.shows g.B.Told.shows g.C.Told.shows g.D.Told.shows g.E.Told.shows g.F.Told.shows g.S.Told.shows c.args.self.now gs asked) (refused_add fs row p.0 (unformed fs row p.0 fault)) h;
@@ -38,16 +38,16 @@ returns-in-err-filter g c =
       kept = λ _. refl;
     }
 
-pub returns-in-err-position : goal.returns-in-err-position
-returns-in-err-position g c =
-    let p = err_from_is_err_and c.from-residual-in-err-position.result c.from-residual-in-err-position.ensures.1 in
+pub returns-in_err-position : goal.returns-in_err-position
+returns-in_err-position g c =
+    let p = err_from_is_err_and c.from_residual-in_err-position.result c.from_residual-in_err-position.ensures.1 in
     let q = p.2 in
-    let is : c.in-err-position.field-0.0 ≡ p.0 = cc in
+    let is : c.in_err-position.field-0.0 ≡ p.0 = cc in
     let row = c.args.row in
     let t = c.args.self.now.table in
-    let fault : refusal (held t) (Add row) ≡ Some p.0 = answered_err (refusal (held t) (Add row)) (rank_place row (held t)) c.in-err-position.field-0.0 c.in-err-position.ensures.result ∙ ap Some is in
+    let fault : refusal (held t) (Add row) ≡ Some p.0 = answered_err (refusal (held t) (Add row)) (rank_place row (held t)) c.in_err-position.field-0.0 c.in_err-position.ensures.result ∙ ap Some is in
     let with-table : FilterTable → Classifier g.row.A.Denot g.row.B.Denot g.row.C.Denot g.row.D.Denot g.row.E.Denot g.row.F.Denot g.row.S.Denot = λ x. record { table = x; labels = c.args.self.now.labels; columns = c.args.self.now.columns; network = c.args.self.now.network } in
-    let same : with-table c.add.new.self ≡ c.args.self.now = ap with-table (c.in-err-position.ensures.kept refl) in
+    let same : with-table c.add.new.self ≡ c.args.self.now = ap with-table (c.in_err-position.ensures.kept refl) in
     record {
       answer = λ fs asked h. ap (answer_by (λ (n : ℕ × ℕ). added n.0 n.1)) p.1 ∙ refused_answer (λ (n : ℕ × ℕ). added n.0 n.1) c.args.self.now.network.order.fields fs (Add row) p.0 (ap (λ (gs : List FilterRow). refusal gs (Add row)) (sym h.table) ∙ fault);
       stands = λ fs asked h. subst (λ (gs : List FilterRow). Stands g.A.Told.shows g.B.Told.shows g.C.Told.shows g.D.Told.shows g.E.Told.shows g.F.Told.shows g.S.Told.shows (with-table c.add.new.self) gs asked) (refused_add fs row p.0 (ap (λ (gs : List FilterRow). refusal gs (Add row)) (sym h.table) ∙ fault)) (subst (λ (k : Classifier g.row.A.Denot g.row.B.Denot g.row.C.Denot g.row.D.Denot g.row.E.Denot g.row.F.Denot g.row.S.Denot). Stands g.A.Told.shows g.B.Told.shows g.C.Told.shows g.D.Told.shows g.E.Told.shows g.F.Told.shows g.S.Told.shows k fs asked) (sym same) h);
@@ -60,11 +60,11 @@ pub returns : goal.returns
 returns g c =
     let row = c.args.row in
     let t = c.args.self.now.table in
-    let filter = c.in-ok-filter.filter in
-    let position = c.in-ok-position.position in
+    let filter = c.in_ok-filter.filter in
+    let position = c.in_ok-position.position in
     let order = c.args.self.now.network.order.fields in
-    let is_row : plain filter ≡ row = (formed_ok plain (row_fault row) filter row c.in-ok-filter.ensures).1 in
-    let ok = answered_ok (refusal (held t) (Add row)) (rank_place row (held t)) position c.in-ok-position.ensures.result in
+    let is_row : plain filter ≡ row = (formed_ok plain (row_fault row) filter row c.in_ok-filter.ensures).1 in
+    let ok = answered_ok (refusal (held t) (Add row)) (rank_place row (held t)) position c.in_ok-position.ensures.result in
     let room : length (held t) < 96 = (accepted_add (held t) row ok.0).room in
     let new = c.enter.new.self in
     let came : (fs : List FilterRow) (asked : Asked) (h : Stands g.A.Told.shows g.B.Told.shows g.C.Told.shows g.D.Told.shows g.E.Told.shows g.F.Told.shows g.S.Told.shows c.args.self.now fs asked) → Came g.A.Told.shows g.B.Told.shows g.C.Told.shows g.D.Told.shows g.E.Told.shows g.F.Told.shows g.S.Told.shows g.A.Told.agrees g.B.Told.agrees g.C.Told.agrees g.D.Told.agrees g.E.Told.agrees g.F.Told.agrees g.S.Told.agrees c.args.self.now new filter position h.entries asked c.enter.result = λ fs asked h.
@@ -88,7 +88,7 @@ returns g c =
           let x : Entry = entry filter k.labels in
           let at : position ≡ rank_place (plain filter) fs = ok.1 ∙ ap (rank_place row) h.table ∙ ap (λ (y : FilterRow). rank_place y fs) (sym is_row) in
           record {
-            table = ap held c.enter.ensures.table ∙ c.in-ok-position.ensures.list ∙ ap (λ (gs : List FilterRow). after gs (Add row)) h.table;
+            table = ap held c.enter.ensures.table ∙ c.in_ok-position.ensures.list ∙ ap (λ (gs : List FilterRow). after gs (Add row)) h.table;
             entries = insert h.entries position x;
             filters = ap (λ (n : ℕ). map row_of (insert h.entries n x)) at ∙ put_entry fs h.entries x h.filters ∙ ap (λ (y : FilterRow). put y fs) is_row ∙ sym (accepted_add_list fs row (none fs asked h));
             parts = k.serves;

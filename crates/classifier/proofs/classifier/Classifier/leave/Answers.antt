@@ -17,38 +17,38 @@ taken_row labels before after x n p size beside few cnt at r e =
 never : {X : Type 0} (x : X) → None ≡ Some x → ⊥
 never x e = let z : ◌≡◌ {A = ℕ} 0 1 = cc in omega arith
 
-pub returns-in-default : goal.returns-in-default
-returns-in-default g c = record {
+pub returns-in_default : goal.returns-in_default
+returns-in_default g c = record {
   left = λ before after x asked h few cnt at.
-      absurd (never x.labels (taken_row c.args.self.now.labels before after x c.args.count c.args.position h.size h.labels few cnt at None c.in-default.ensures.value));
+      absurd (never x.labels (taken_row c.args.self.now.labels before after x c.args.count c.args.position h.size h.labels few cnt at None c.in_default.ensures.value));
   table = refl;
   order = refl;
 }
 
-pub returns-in-default-leave : goal.returns-in-default-leave
-returns-in-default-leave g c = record {
+pub returns-in_default-leave : goal.returns-in_default-leave
+returns-in_default-leave g c = record {
   left = λ before after x asked h few cnt at.
       let labels = c.in-Some.labels in
       let e : labels ≡ x.labels = some_same (taken_row c.args.self.now.labels before after x c.args.count c.args.position h.size h.labels few cnt at (Some labels) c.in-Some.ensures.value) in
-      absurd (c.in-default-leave.ensures (map in_columns before) (map in_columns after) x.filter asked.engines
+      absurd (c.in_default-leave.ensures (map in_columns before) (map in_columns after) x.filter asked.engines
       (subst (λ (l : FilterLabels). Stand g.A.Told.shows g.B.Told.shows g.C.Told.shows g.D.Told.shows g.E.Told.shows g.F.Told.shows c.args.self.now.columns (map in_columns before ++ placed x.filter l.fields ∷ map in_columns after) asked.engines) (sym e)
       (parted_by (λ (ps : List Placed). Stand g.A.Told.shows g.B.Told.shows g.C.Told.shows g.D.Told.shows g.E.Told.shows g.F.Told.shows c.args.self.now.columns ps asked.engines) in_columns before after x h.fields)));
   table = refl;
   order = refl;
 }
 
-pub returns-in-default-leave-2 : goal.returns-in-default-leave-2
-returns-in-default-leave-2 g c = record {
+pub returns-in_default-leave-2 : goal.returns-in_default-leave-2
+returns-in_default-leave-2 g c = record {
   left = λ before after x asked h few cnt at.
       let labels = c.in-Some.labels in
       let e : labels ≡ x.labels = some_same (taken_row c.args.self.now.labels before after x c.args.count c.args.position h.size h.labels few cnt at (Some labels) c.in-Some.ensures.value) in
       let order = c.args.self.now.network.order.fields in
       let net : Entry → Filed = in_network order in
-      absurd (c.in-default-leave-2.ensures.left (map net before) (map net after) (arranged order x.labels.fields) asked.stores
+      absurd (c.in_default-leave-2.ensures.left (map net before) (map net after) (arranged order x.labels.fields) asked.stores
       (subst (λ (l : FilterLabels). Nodes g.S.Told.shows c.args.self.now.network.nodes (map net before ++ filed (arranged order x.labels.fields) l.nodes ∷ map net after) asked.stores 5) (sym e)
       (parted_by (λ (fs : List Filed). Nodes g.S.Told.shows c.args.self.now.network.nodes fs asked.stores 5) net before after x h.nodes)));
   table = refl;
-  order = c.in-default-leave-2.ensures.order;
+  order = c.in_default-leave-2.ensures.order;
 }
 
 pub returns : goal.returns

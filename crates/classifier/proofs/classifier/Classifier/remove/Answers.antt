@@ -23,16 +23,16 @@ use Rattle.classifier.specs.Telling.{Told, Came, Gone}
 use Rattle.classifier.proofs.Answered.{refused_answer, accepted_answer, refused_add, refused_remove, accepted_add_list, accepted_remove_list, answered_err, answered_ok, some_or_none, unformed, rank_within, put_entry, Parted, parted}
 use Rattle.classifier.proofs.classifier.Classifier.remove.Goals as goal
 
-pub returns-in-err-position : goal.returns-in-err-position
-returns-in-err-position g c =
-    let p = err_from_is_err_and c.from-residual.result c.from-residual.ensures.1 in
+pub returns-in_err-position : goal.returns-in_err-position
+returns-in_err-position g c =
+    let p = err_from_is_err_and c.from_residual.result c.from_residual.ensures.1 in
     let q = p.2 in
-    let is : c.in-err-position.field-0.0 ≡ p.0 = cc in
+    let is : c.in_err-position.field-0.0 ≡ p.0 = cc in
     let id = c.args.identifier in
     let t = c.args.self.now.table in
-    let fault : refusal (held t) (Remove id) ≡ Some p.0 = answered_err (refusal (held t) (Remove id)) (place_of id (held t)) c.in-err-position.field-0.0 c.in-err-position.ensures.result ∙ ap Some is in
+    let fault : refusal (held t) (Remove id) ≡ Some p.0 = answered_err (refusal (held t) (Remove id)) (place_of id (held t)) c.in_err-position.field-0.0 c.in_err-position.ensures.result ∙ ap Some is in
     let with-table : FilterTable → Classifier g.row.A.Denot g.row.B.Denot g.row.C.Denot g.row.D.Denot g.row.E.Denot g.row.F.Denot g.row.S.Denot = λ x. record { table = x; labels = c.args.self.now.labels; columns = c.args.self.now.columns; network = c.args.self.now.network } in
-    let same : with-table c.remove.new.self ≡ c.args.self.now = ap with-table (c.in-err-position.ensures.kept refl) in
+    let same : with-table c.remove.new.self ≡ c.args.self.now = ap with-table (c.in_err-position.ensures.kept refl) in
     record {
       answer = λ fs asked h. ap (answer_by (λ (n : ℕ × ℕ). removed n.0 n.1)) p.1 ∙ refused_answer (λ (n : ℕ × ℕ). removed n.0 n.1) c.args.self.now.network.order.fields fs (Remove id) p.0 (ap (λ (gs : List FilterRow). refusal gs (Remove id)) (sym h.table) ∙ fault);
       stands = λ fs asked h. subst (λ (gs : List FilterRow). Stands g.A.Told.shows g.B.Told.shows g.C.Told.shows g.D.Told.shows g.E.Told.shows g.F.Told.shows g.S.Told.shows (with-table c.remove.new.self) gs asked) (refused_remove fs id p.0 (ap (λ (gs : List FilterRow). refusal gs (Remove id)) (sym h.table) ∙ fault)) (subst (λ (k : Classifier g.row.A.Denot g.row.B.Denot g.row.C.Denot g.row.D.Denot g.row.E.Denot g.row.F.Denot g.row.S.Denot). Stands g.A.Told.shows g.B.Told.shows g.C.Told.shows g.D.Told.shows g.E.Told.shows g.F.Told.shows g.S.Told.shows k fs asked) (sym same) h);
@@ -45,9 +45,9 @@ pub returns : goal.returns
 returns g c =
     let id = c.args.identifier in
     let t = c.args.self.now.table in
-    let position = c.in-ok-position.position in
+    let position = c.in_ok-position.position in
     let order = c.args.self.now.network.order.fields in
-    let ok = answered_ok (refusal (held t) (Remove id)) (place_of id (held t)) position c.in-ok-position.ensures.result in
+    let ok = answered_ok (refusal (held t) (Remove id)) (place_of id (held t)) position c.in_ok-position.ensures.result in
     let new = c.leave.new.self in
     let split : (fs : List FilterRow) (asked : Asked) (h : Stands g.A.Told.shows g.B.Told.shows g.C.Told.shows g.D.Told.shows g.E.Told.shows g.F.Told.shows g.S.Told.shows c.args.self.now fs asked) → Parted id fs h.entries = λ fs asked h.
     subst (λ (gs : List FilterRow). Parted id gs h.entries) h.filters (parted id h.entries (accepted_removal (map row_of h.entries) id (ap (λ (gs : List FilterRow). refusal gs (Remove id)) (h.filters ∙ sym h.table) ∙ ok.0))) in
@@ -76,7 +76,7 @@ returns g c =
           let q = split fs asked h in
           let k = left fs asked h q in
           record {
-            table = ap held c.leave.ensures.table ∙ c.in-ok-position.ensures.list ∙ ap (λ (gs : List FilterRow). after gs (Remove id)) h.table;
+            table = ap held c.leave.ensures.table ∙ c.in_ok-position.ensures.list ∙ ap (λ (gs : List FilterRow). after gs (Remove id)) h.table;
             entries = q.front ++ q.back;
             filters = q.rest ∙ sym (accepted_remove_list fs id (none fs asked h));
             parts = k.serves;
