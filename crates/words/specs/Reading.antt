@@ -1,7 +1,7 @@
 -- Reading is said by writing: bytes are read as a value exactly if they are its text. So no value has two spellings, and
 -- none is what reading answers exactly if the bytes are the text of no value.
 use Rattle.std.specs.Prelude.{◌≡◌, ℕ, List, Some, Option, ◌≢◌}
-use Rattle.std.specs.List.{AllByRecursion as All}
+use Rattle.std.specs.List.{AllByRecursion}
 
 -- r is the value of those that fit whose text the bytes are
 pub record Reads {V : Type 0} (text : V → List ℕ) (Fits : V → Type 0) (bytes : List ℕ) (r : Option V) : Type 0 where
@@ -10,4 +10,4 @@ pub record Reads {V : Type 0} (text : V → List ℕ) (Fits : V → Type 0) (byt
 
 -- no byte is the separator
 abbrev pub Free : ℕ → List ℕ → Type 0
-Free separator bytes = All (λ b. b ≢ separator) bytes
+Free separator bytes = AllByRecursion (λ b. b ≢ separator) bytes
