@@ -1,6 +1,6 @@
 -- The parts serve an entry more, or one less.
 use Rattle.std.proofs.Common.{◌≡◌, ℕ, zero, suc, ◌+◌, ◌-◌, ◌<◌, ◌≤◌, Bool, true, false, cond, ◌&&◌, ltb, leb, List, [], ◌∷◌, ◌++◌, map, length, get_or, take, drop, Some, None, Option, sym, refl, ap, ◌∙◌, subst, arith, length-append}
-use Rattle.std.specs.List.{insert, remove, AllByRecursion as All, slice_get}
+use Rattle.std.specs.List.{insert, remove, AllByRecursion, slice_get}
 use Rattle.std.proofs.lemmas.List.{map-append, length-map, take-append-drop}
 use Rattle.std.proofs.lemmas.List.Edits.{length-insert}
 use Rattle.std.proofs.lemmas.Bool.{cond-true}
@@ -116,8 +116,8 @@ module _ {A B C D E F S : Type 0} (a : A → Meaning Prefix → Type 0) (b : B �
   same_order : (es : List Entry) → Nodes s new.network.nodes (map net es) asked.stores 5 → Nodes s new.network.nodes (map (in_network new.network.order.fields) es) asked.stores 5
   same_order es = subst (λ (o : NetworkOrder). Nodes s new.network.nodes (map (in_network o.fields) es) asked.stores 5) (sym kept)
 
-  same_first : (es : List Entry) → All First (map net es) → All First (map (in_network new.network.order.fields) es)
-  same_first es = subst (λ (o : NetworkOrder). All First (map (in_network o.fields) es)) (sym kept)
+  same_first : (es : List Entry) → AllByRecursion First (map net es) → AllByRecursion First (map (in_network new.network.order.fields) es)
+  same_first es = subst (λ (o : NetworkOrder). AllByRecursion First (map (in_network o.fields) es)) (sym kept)
 
   pub came : (filter : Filter) (labels : FilterLabels) (p : ℕ) (es : List Entry) (n : ℕ × ℕ) → Serves a b c d e f s old es asked → length es < 96 → p ≤ length es
       → Stand a b c d e f new.columns (map in_columns (take p es) ++ placed filter labels.fields ∷ map in_columns (drop p es)) asked.engines
@@ -137,8 +137,8 @@ module _ {A B C D E F S : Type 0} (a : A → Meaning Prefix → Type 0) (b : B �
       let whole : before ++ after ≡ es = take-append-drop p es in
       let stand' : Stand a b c d e f new.columns (map in_columns (before ++ x ∷ after)) asked.engines = subst (λ (ps : List Placed). Stand a b c d e f new.columns ps asked.engines) (sym (map-append in_columns before (x ∷ after))) stand in
       let nodes' : Nodes s new.network.nodes (map net (before ++ x ∷ after)) asked.stores 5 = subst (λ (fs : List Filed). Nodes s new.network.nodes fs asked.stores 5) (sym (map-append net before (x ∷ after))) nodes in
-      let firsts : All First (map net before ++ map net after) = subst (λ (fs : List Filed). All First fs) (cut_map net p es) h.first in
-      let first' : All First (map net (before ++ x ∷ after)) = subst (λ (fs : List Filed). All First fs) (sym (map-append net before (x ∷ after))) (all_insert First (map net before) (map net after) (net x) firsts first) in
+      let firsts : AllByRecursion First (map net before ++ map net after) = subst (λ (fs : List Filed). AllByRecursion First fs) (cut_map net p es) h.first in
+      let first' : AllByRecursion First (map net (before ++ x ∷ after)) = subst (λ (fs : List Filed). AllByRecursion First fs) (sym (map-append net before (x ∷ after))) (all_insert First (map net before) (map net after) (net x) firsts first) in
       let order = old.network.order in
       let beside = labels_in old.labels es p x h.size h.labels few le in
       record {
@@ -169,14 +169,14 @@ module _ {A B C D E F S : Type 0} (a : A → Meaning Prefix → Type 0) (b : B �
   gone before after x n h few stand nf tf nodes nn tn ask lab =
       let order = old.network.order in
       let beside = labels_out old.labels before after x h.size h.labels few in
-      let firsts : All First (map net before ++ map net after) = (all_delete First (map net before) (map net after) (net x) (subst (λ (fs : List Filed). All First fs) (map-append net before (x ∷ after)) h.first)).0 in
+      let firsts : AllByRecursion First (map net before ++ map net after) = (all_delete First (map net before) (map net after) (net x) (subst (λ (fs : List Filed). AllByRecursion First fs) (map-append net before (x ∷ after)) h.first)).0 in
       record {
         serves = record {
           size = ap length lab ∙ beside.1;
           labels = ap (take (length (before ++ after))) lab ∙ beside.2;
           fields = subst (λ (ps : List Placed). Stand a b c d e f new.columns ps asked.engines) (sym (map-append in_columns before after)) stand;
           nodes = same_order (before ++ after) (subst (λ (fs : List Filed). Nodes s new.network.nodes fs asked.stores 5) (sym (map-append net before after)) nodes);
-          first = same_first (before ++ after) (subst (λ (fs : List Filed). All First fs) (sym (map-append net before after)) firsts);
+          first = same_first (before ++ after) (subst (λ (fs : List Filed). AllByRecursion First fs) (sym (map-append net before after)) firsts);
           spare = h.spare;
         };
         field_labels = field_labels order old.columns old.network.nodes h.spare before after x asked.engines asked.stores h.fields h.nodes h.first n.0 nf;

@@ -1,6 +1,6 @@
 -- What stands in a classifier, and what its parts then hold.
 use Rattle.std.specs.Prelude.{◌≡◌, ℕ, List, [], map, length, take}
-use Rattle.std.specs.List.{AllByRecursion as All}
+use Rattle.std.specs.List.{AllByRecursion}
 use Rattle.fields.specs.declared.prefixes.Prefix.{Prefix}
 use Rattle.fields.specs.declared.ranges.PortRange.{PortRange}
 use Rattle.fields.specs.declared.protocols.Protocol.{Protocol}
@@ -33,7 +33,7 @@ pub record Serves {A B C D E F S : Type 0} (a : A → Meaning Prefix → Type 0)
   pub fields : Stand a b c d e f classifier.columns (map in_columns es) asked.engines
   -- each store holds exactly the combinations in use, at their labels; a filter's first label is its first field's
   pub nodes : Nodes s classifier.network.nodes (map (in_network classifier.network.order.fields) es) asked.stores 5
-  pub first : All First (map (in_network classifier.network.order.fields) es)
+  pub first : AllByRecursion First (map (in_network classifier.network.order.fields) es)
   -- what a reading past the last node would give
   pub spare : Board Pair S Pair
 

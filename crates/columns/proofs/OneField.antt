@@ -1,7 +1,7 @@
 -- One field of the standing filters, for a value of any kind.
 use Rattle.std.proofs.Common.{◌≡◌, ℕ, zero, suc, ◌+◌, ◌<◌, ◌≤◌, Bool, true, false, eqb, List, [], ◌∷◌, ◌++◌, map, length, get_or, None, Decides, Option, sym, refl, ap, ◌∙◌, subst, arith, length-append}
 use mir.Val.{bool_byte}
-use Rattle.std.specs.List.{AllByRecursion as All}
+use Rattle.std.specs.List.{AllByRecursion}
 use Rattle.std.proofs.lemmas.List.{length-map, map-append}
 use Rattle.filters.specs.declared.filter.Filter.{Filter}
 use Rattle.labels.specs.declared.table.Used.{Used}
@@ -59,7 +59,7 @@ pub six : (a b c d e f : Bool) (u v w x y z : Bool) → a ≡ u → b ≡ v → 
     → bool_byte a + bool_byte b + bool_byte c + bool_byte d + bool_byte e + bool_byte f ≡ bit u + bit v + bit w + bit x + bit y + bit z
 six a b c d e f u v w x y z p q r s t o = omega (arith, bits a ∙ ap bit p, bits b ∙ ap bit q, bits c ∙ ap bit r, bits d ∙ ap bit s, bits e ∙ ap bit t, bits f ∙ ap bit o)
 
-all_unmap : {X Y : Type 0} (f : X → Y) (P : Y → Type 0) (xs : List X) → All P (map f xs) → All (λ x. P (f x)) xs
+all_unmap : {X Y : Type 0} (f : X → Y) (P : Y → Type 0) (xs : List X) → AllByRecursion P (map f xs) → AllByRecursion (λ x. P (f x)) xs
 all_unmap f P [] h = tt
 all_unmap f P (x ∷ xs) h = (h.0, all_unmap f P xs h.1)
 
@@ -76,7 +76,7 @@ answered {V} eq law takes shows agrees value j number old new ps found slots n s
     record {
       found_in = record {
         many = ap length e ∙ found_different eq law slots fs s.labelled takes ∙ ap (different eq takes) (map_values value j ps);
-        matching = subst (λ (ls : List ℕ). All (λ p. member (get_or p.labels j 0) ls ≡ takes (value p.filter)) ps) (sym e)
+        matching = subst (λ (ls : List ℕ). AllByRecursion (λ p. member (get_or p.labels j 0) ls ≡ takes (value p.filter)) ps) (sym e)
             (all_unmap (in_field value j) (λ f. member f.label (labels_of takes (keys slots)) ≡ takes f.key) ps (labels_tested eq law slots fs s.labelled takes));
       };
       below = subst Labels (sym e) (marked_labels (map (hit takes) (keys slots)) (omega (arith, length-map (keys slots) (hit takes), length-map slots (key_of {K = V}), s.labelled.size)));

@@ -1,6 +1,6 @@
 -- The fields of the standing filters: each has an engine that holds exactly the values in use, at their labels.
 use Rattle.std.specs.Prelude.{◌≡◌, ℕ, ◌+◌, ◌%◌, ◌^◌, Bool, true, false, cond, List, [], ◌∷◌, ◌++◌, map, length, Option, ◌==◌, slice_index}
-use Rattle.std.specs.List.{AllByRecursion as All}
+use Rattle.std.specs.List.{AllByRecursion}
 use Rattle.fields.specs.declared.prefixes.Prefix.{Prefix}
 use Rattle.fields.specs.declared.ranges.PortRange.{PortRange}
 use Rattle.fields.specs.declared.protocols.Protocol.{Protocol}
@@ -46,7 +46,7 @@ pub record ToldIf {V P : Type 0} (eq : V → V → Bool) (agrees : P → List �
 -- the labels found in a field: one for each different value that the number satisfies, and each filter's exactly if its value is satisfied
 pub record FoundIn {V : Type 0} (eq : V → V → Bool) (takes : V → Bool) (value : Filter → V) (j : ℕ) (ps : List Placed) (found : List ℕ) : Type 0 where
   pub many : length found ≡ different eq takes (map (λ p. value p.filter) ps)
-  pub matching : All (λ p. member (slice_index p.labels j) found ≡ takes (value p.filter)) ps
+  pub matching : AllByRecursion (λ p. member (slice_index p.labels j) found ≡ takes (value p.filter)) ps
 
 -- equality in each kind
 abbrev pub prefix_eq : Prefix → Prefix → Bool
@@ -126,7 +126,7 @@ once_more asked j = (asked j + 1) % 2 ^ 32
 
 -- count is how many filters have the value of each filter that has the label in the field
 abbrev pub Counted : {V : Type 0} → (V → V → Bool) → (Filter → V) → ℕ → ℕ → ℕ → List Placed → Type 0
-Counted eq value j label count ps = All (λ p. slice_index p.labels j ≡ label → count ≡ occurrences eq (value p.filter) (map (in_field value j) ps)) ps
+Counted eq value j label count ps = AllByRecursion (λ p. slice_index p.labels j ≡ label → count ≡ occurrences eq (value p.filter) (map (in_field value j) ps)) ps
 
 pub record CountedColumns (field label count : ℕ) (ps : List Placed) : Type 0 where
   pub source : field ≡ 0 → Counted prefix_eq (λ g. g.source) 0 label count ps

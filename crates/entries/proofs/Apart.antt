@@ -1,6 +1,6 @@
 -- Labels tell the standing filters' values apart, in each field and along the nodes.
 use Rattle.std.proofs.Common.{◌≡◌, ℕ, zero, suc, ◌+◌, ◌-◌, ◌<◌, ◌≤◌, Bool, true, false, cond, not, ◌&&◌, ◌||◌, eqb, leb, ◌⊎◌, List, [], ◌∷◌, ◌++◌, map, length, get_or, Some, None, Decides, Option, sym, refl, ap, ◌∙◌, subst, inl, inr, ⊎_elim, arith}
-use Rattle.std.specs.List.{AllByRecursion as All}
+use Rattle.std.specs.List.{AllByRecursion}
 use Rattle.std.proofs.lemmas.Bool.{eqb-true, eq-eqb, both_ways, and_parts, leb-true}
 use Rattle.fields.specs.Orders.{field_count, is_field}
 use Rattle.fields.proofs.Values.{prefix_decides, range_decides, protocol_decides, flags_decides}
@@ -51,7 +51,7 @@ module _ {V : Type 0} (eq : V → V → Bool) (law : (a b : V) → Decides (eq a
       (λ h. (law v w).1 (one_key (get_or slots y None) v w (subst (λ (i : ℕ). here eq v (get_or slots i None) ≡ true) (eqb-true x y h) he) hg))
       (λ h. eq-eqb x y (single x y w (subst (λ (k : V). here eq k (get_or slots x None) ≡ true) ((law v w).0 h) he) hg))
 
-  pub all_held : (es : List Entry) → Labelled eq slots (map (in_field value j) (map in_columns es)) → All Held es
+  pub all_held : (es : List Entry) → Labelled eq slots (map (in_field value j) (map in_columns es)) → AllByRecursion Held es
   all_held es h = all_unmap in_columns (λ p. here eq (value p.filter) (get_or slots (get_or p.labels j 0) None) ≡ true) es (all_unmap (in_field value j) (λ s. here eq s.key (get_or slots s.label None) ≡ true) (map in_columns es) h.holds)
 
 module _ {A B C D E F S : Type 0} {a : A → Meaning Prefix → Type 0} {b : B → Meaning Prefix → Type 0} {c : C → Meaning PortRange → Type 0} {d : D → Meaning PortRange → Type 0} {e : E → Meaning Protocol → Type 0} {f : F → Meaning FlagMask → Type 0} {s : S → Meaning Pair → Type 0}
@@ -87,7 +87,7 @@ module _ {A B C D E F S : Type 0} {a : A → Meaning Prefix → Type 0} {b : B �
   pub node_same : (m : ℕ) → m ≤ n → (x y : Entry) → Good x → Good y → eqb (get_or x.labels.nodes m 0) (get_or y.labels.nodes m 0) ≡ alike m (in_network order x) (in_network order y)
   node_same m l x y hx hy = label_same s spare nodes (map (in_network order) es) ns n net m l (in_network order x) (in_network order y) hx.filed hy.filed
 
-  pub all_good_entries : All First (map (in_network order) es) → All Good es
+  pub all_good_entries : AllByRecursion First (map (in_network order) es) → AllByRecursion Good es
   all_good_entries first =
       zipped es
       (all_held prefix_eq prefix_decides (λ (g : Filter). g.source) 0 columns.source_labels.slots es stand.source.labelled)
@@ -99,14 +99,14 @@ module _ {A B C D E F S : Type 0} {a : A → Meaning Prefix → Type 0} {b : B �
       (all_unmap (in_network order) (GoodFiled s spare nodes (map (in_network order) es) ns n net) es (all_good s spare nodes (map (in_network order) es) ns n net first))
     where
       zipped : (xs : List Entry)
-          → All (Held prefix_eq prefix_decides (λ (g : Filter). g.source) 0 columns.source_labels.slots) xs
-          → All (Held prefix_eq prefix_decides (λ (g : Filter). g.destination) 1 columns.destination_labels.slots) xs
-          → All (Held range_eq range_decides (λ (g : Filter). g.source_port) 2 columns.source_port_labels.slots) xs
-          → All (Held range_eq range_decides (λ (g : Filter). g.destination_port) 3 columns.destination_port_labels.slots) xs
-          → All (Held protocol_eq protocol_decides (λ (g : Filter). g.protocol) 4 columns.protocol_labels.slots) xs
-          → All (Held flags_eq flags_decides (λ (g : Filter). g.flags) 5 columns.flags_labels.slots) xs
-          → All (λ x. GoodFiled s spare nodes (map (in_network order) es) ns n net (in_network order x)) xs
-          → All Good xs
+          → AllByRecursion (Held prefix_eq prefix_decides (λ (g : Filter). g.source) 0 columns.source_labels.slots) xs
+          → AllByRecursion (Held prefix_eq prefix_decides (λ (g : Filter). g.destination) 1 columns.destination_labels.slots) xs
+          → AllByRecursion (Held range_eq range_decides (λ (g : Filter). g.source_port) 2 columns.source_port_labels.slots) xs
+          → AllByRecursion (Held range_eq range_decides (λ (g : Filter). g.destination_port) 3 columns.destination_port_labels.slots) xs
+          → AllByRecursion (Held protocol_eq protocol_decides (λ (g : Filter). g.protocol) 4 columns.protocol_labels.slots) xs
+          → AllByRecursion (Held flags_eq flags_decides (λ (g : Filter). g.flags) 5 columns.flags_labels.slots) xs
+          → AllByRecursion (λ x. GoodFiled s spare nodes (map (in_network order) es) ns n net (in_network order x)) xs
+          → AllByRecursion Good xs
       zipped [] p q r t u v w = tt
       zipped (x ∷ xs) p q r t u v w = (
         record { source = p.0; destination = q.0; source_port = r.0; destination_port = t.0; protocol = u.0; flags = v.0; filed = w.0 },

@@ -1,6 +1,6 @@
 -- Search: what is found by labels is what the filter list finds by values.
 use Rattle.std.proofs.Common.{◌≡◌, ℕ, zero, suc, ◌+◌, ◌-◌, ◌*◌, ◌<◌, ◌≤◌, Bool, true, false, cond, not, ◌&&◌, ◌||◌, eqb, leb, ◌⊎◌, List, [], ◌∷◌, ◌++◌, map, length, get_or, take, sym, refl, ap, ◌∙◌, subst, inl, inr, ⊎_elim, add-one, arith}
-use Rattle.std.specs.List.{AllByRecursion as All}
+use Rattle.std.specs.List.{AllByRecursion}
 use Rattle.std.proofs.lemmas.List.{take_more, take_all}
 use Rattle.std.proofs.ByRecursion.{All-get_or}
 use Rattle.std.proofs.lemmas.Bool.{cases_Bool, cases_eq, eqb-true, ne_eqb, both_ways, and_parts, and_from, leb-true}
@@ -43,7 +43,7 @@ every_at q (x ∷ ks) k l h =
     (λ (ne : k ≡ x → ⊥). every_at q ks k (omega (arith, ap (λ (b : Bool). cond {A = ℕ} b 1 0) (ne_eqb k x ne))) (and_parts (q x) (every q ks) h).1)
     (cases_eq k x)
 
-every_from : (q : ℕ → Bool) (P : ℕ → Type 0) → ((k : ℕ) → P k → q k ≡ true) → (ks : List ℕ) → All P ks → every q ks ≡ true
+every_from : (q : ℕ → Bool) (P : ℕ → Type 0) → ((k : ℕ) → P k → q k ≡ true) → (ks : List ℕ) → AllByRecursion P ks → every q ks ≡ true
 every_from q P g [] h = refl
 every_from q P g (k ∷ ks) h = and_from (q k) (every q ks) (g k h.0) (every_from q P g ks h.1)
 
@@ -77,7 +77,7 @@ matches_any f h order size once =
     takes_every f h order ∙ any_order (λ k. value_takes (field f k) (number_in h k)) order size once ∙ sym (takes_every f h (up_to field_count))
 
 -- the labels found tell which values the header satisfies
-module _ (order : List ℕ) (fields : All (λ k. is_field field_count k ≡ true) order) (n : ℕ) (size : length order ≡ n + 1) (h : Header) (found : ℕ → List ℕ) where
+module _ (order : List ℕ) (fields : AllByRecursion (λ k. is_field field_count k ≡ true) order) (n : ℕ) (size : length order ≡ n + 1) (h : Header) (found : ℕ → List ℕ) where
   -- an entry's label in a field is found exactly if its value there is satisfied
   abbrev pub ToldBy : Entry → Type 0
   ToldBy e = (k : ℕ) → is_field field_count k ≡ true → member (get_or e.labels.fields (k - 1) 0) (found (k - 1)) ≡ value_takes (field (row_of e) k) (number_in h k)
@@ -116,7 +116,7 @@ module _ (order : List ℕ) (fields : All (λ k. is_field field_count k ≡ true
   module _ (es : List Entry) (Good : Entry → Type 0)
       (field_same : (e g : Entry) → Good e → Good g → (k : ℕ) → is_field field_count k ≡ true → eqb (get_or e.labels.fields (k - 1) 0) (get_or g.labels.fields (k - 1) 0) ≡ same_value (field (row_of e) k) (field (row_of g) k))
       (node_same : (m : ℕ) → m ≤ n → (e g : Entry) → Good e → Good g → eqb (get_or e.labels.nodes m 0) (get_or g.labels.nodes m 0) ≡ alike m (in_network order e) (in_network order g))
-      (good : All (λ e. Good e × ToldBy e) es)
+      (good : AllByRecursion (λ e. Good e × ToldBy e) es)
       (many : (k : ℕ) → is_field field_count k ≡ true → length (found (k - 1)) ≡ found_rows (k ∷ []) h (map row_of es)) where
     pub many_at : (j : ℕ) → j ≤ n → length (at_position j) ≡ found_rows (get_or order j 0 ∷ []) h (map row_of es)
     many_at j l = many (get_or order j 0) (All-get_or (λ k. is_field field_count k ≡ true) order j 0 (omega arith) fields)
@@ -143,10 +143,10 @@ module _ (order : List ℕ) (fields : All (λ k. is_field field_count k ≡ true
         omega (arith, before, product, parts)
 
 -- labels in use at the nodes are different rows of values
-module _ (order : List ℕ) (fields : All (λ k. is_field field_count k ≡ true) order) (n : ℕ) (size : length order ≡ n + 1) (es : List Entry) (Good : Entry → Type 0)
+module _ (order : List ℕ) (fields : AllByRecursion (λ k. is_field field_count k ≡ true) order) (n : ℕ) (size : length order ≡ n + 1) (es : List Entry) (Good : Entry → Type 0)
     (field_same : (e g : Entry) → Good e → Good g → (k : ℕ) → is_field field_count k ≡ true → eqb (get_or e.labels.fields (k - 1) 0) (get_or g.labels.fields (k - 1) 0) ≡ same_value (field (row_of e) k) (field (row_of g) k))
     (node_same : (m : ℕ) → m ≤ n → (e g : Entry) → Good e → Good g → eqb (get_or e.labels.nodes m 0) (get_or g.labels.nodes m 0) ≡ alike m (in_network order e) (in_network order g))
-    (good : All Good es) where
+    (good : AllByRecursion Good es) where
   pub nodes_in_use : (m : ℕ) → m ≤ n → rows_in_use (map (in_network order) es) m ≡ total (in_use (map row_of es)) (map (node_fields order) (up_to m))
   nodes_in_use zero l = refl
   nodes_in_use (suc m) l =

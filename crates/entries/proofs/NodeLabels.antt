@@ -1,6 +1,6 @@
 -- What the network counts in labels is what the filter list counts in rows of values, node by node.
 use Rattle.std.proofs.Common.{◌≡◌, ℕ, zero, suc, ◌+◌, ◌-◌, ◌<◌, ◌≤◌, Bool, true, false, cond, not, ◌&&◌, ◌||◌, eqb, leb, ◌⊎◌, List, [], ◌∷◌, ◌++◌, map, length, get_or, take, Some, None, Decides, count_by, Option, sym, refl, ap, ◌∙◌, subst, inl, inr, ⊎_elim, add-one, arith}
-use Rattle.std.specs.List.{AllByRecursion as All}
+use Rattle.std.specs.List.{AllByRecursion}
 use Rattle.std.proofs.lemmas.List.{take_more}
 use Rattle.std.proofs.ByRecursion.{All-get_or}
 use Rattle.std.proofs.lemmas.Bool.{eqb-true, eq-eqb, both_ways}
@@ -38,7 +38,7 @@ map_get_or f (x ∷ xs) zero d y l = refl
 map_get_or f (x ∷ xs) (suc i) d y l = map_get_or f xs i d y (omega arith)
 
 -- entries whose labels tell values apart: in a field, and along the nodes
-module _ (order : List ℕ) (fields : All (λ k. is_field field_count k ≡ true) order) (Good : Entry → Type 0)
+module _ (order : List ℕ) (fields : AllByRecursion (λ k. is_field field_count k ≡ true) order) (Good : Entry → Type 0)
     (field_same : (e g : Entry) → Good e → Good g → (k : ℕ) → is_field field_count k ≡ true → eqb (get_or e.labels.fields (k - 1) 0) (get_or g.labels.fields (k - 1) 0) ≡ same_value (field (row_of e) k) (field (row_of g) k))
     (n : ℕ) (size : length order ≡ n + 1)
     (node_same : (m : ℕ) → m ≤ n → (e g : Entry) → Good e → Good g → eqb (get_or e.labels.nodes m 0) (get_or g.labels.nodes m 0) ≡ alike m (in_network order e) (in_network order g)) where
@@ -74,19 +74,19 @@ module _ (order : List ℕ) (fields : All (λ k. is_field field_count k ≡ true
       ∙ rows_same e g he hg (suc m) (omega arith)
 
   -- no entry has the combination
-  pub node_alone : (e : Entry) → Good e → (es : List Entry) → All Good es → (m : ℕ) → m < n → cond {A = ℕ} (unused (map (in_network order) es) (in_network order e) m) 1 0 ≡ alone (row_of e) (map row_of es) (node_fields order (suc m))
+  pub node_alone : (e : Entry) → Good e → (es : List Entry) → AllByRecursion Good es → (m : ℕ) → m < n → cond {A = ℕ} (unused (map (in_network order) es) (in_network order e) m) 1 0 ≡ alone (row_of e) (map row_of es) (node_fields order (suc m))
   node_alone e he es hs m l =
       let ks = node_fields order (suc m) in
       ap (λ (fs : List (Standing Pair)). cond {A = ℕ} (eqb (occurrences same_pair (key_at m (in_network order e)) fs) 0) 1 0) (map_map (at_node m) (in_network order) es)
       ∙ alone_alike (λ (s : Standing Pair). same_pair (key_at m (in_network order e)) s.key) (same_row (row ks (row_of e))) (λ (g : Entry). at_node m (in_network order g)) (λ (g : Entry). row ks (row_of g)) es (told es hs)
       ∙ sym (ap (λ (rs : List (List Value)). cond {A = ℕ} (some (same_row (row ks (row_of e))) rs) 0 1) (map_map (row ks) row_of es))
     where
-      told : (gs : List Entry) → All Good gs → All (λ (g : Entry). same_pair (key_at m (in_network order e)) (key_at m (in_network order g)) ≡ same_row (row (node_fields order (suc m)) (row_of e)) (row (node_fields order (suc m)) (row_of g))) gs
+      told : (gs : List Entry) → AllByRecursion Good gs → AllByRecursion (λ (g : Entry). same_pair (key_at m (in_network order e)) (key_at m (in_network order g)) ≡ same_row (row (node_fields order (suc m)) (row_of e)) (row (node_fields order (suc m)) (row_of g))) gs
       told [] h = tt
       told (g ∷ gs) h = (keys_same e g he h.0 m l, told gs h.1)
 
   -- over the first nodes
-  pub nodes_alone : (e : Entry) → Good e → (es : List Entry) → All Good es → (m : ℕ) → m ≤ n → fresh (map (in_network order) es) (in_network order e) m ≡ total (alone (row_of e) (map row_of es)) (map (node_fields order) (up_to m))
+  pub nodes_alone : (e : Entry) → Good e → (es : List Entry) → AllByRecursion Good es → (m : ℕ) → m ≤ n → fresh (map (in_network order) es) (in_network order e) m ≡ total (alone (row_of e) (map row_of es)) (map (node_fields order) (up_to m))
   nodes_alone e he es hs zero l = refl
   nodes_alone e he es hs (suc m) l =
       let before = nodes_alone e he es hs m (omega arith) in

@@ -1,6 +1,6 @@
 -- Lists whose elements pass tests alike.
 use Rattle.std.proofs.Common.{◌≡◌, ℕ, zero, suc, ◌+◌, ◌<◌, ◌≤◌, Bool, true, false, cond, not, ◌&&◌, ◌||◌, eqb, ◌⊎◌, List, [], ◌∷◌, ◌++◌, map, count_by, sym, refl, ap, ◌∙◌, subst, inl, inr, ⊎_elim, arith}
-use Rattle.std.specs.List.{AllByRecursion as All}
+use Rattle.std.specs.List.{AllByRecursion}
 use Rattle.std.proofs.lemmas.List.Sums.{sum_by-cons}
 use Rattle.std.proofs.lemmas.Bool.{cases_Bool, ne_eqb}
 use Rattle.filters.specs.Counting.{some, total, different}
@@ -21,11 +21,11 @@ pub some_map : {X Y : Type 0} (p : Y → Bool) (a : X → Y) (xs : List X) → s
 some_map p a [] = refl
 some_map p a (x ∷ xs) = ap (λ (b : Bool). p (a x) || b) (some_map p a xs)
 
-pub some_same : {X : Type 0} (p q : X → Bool) (xs : List X) → All (λ x. p x ≡ q x) xs → some p xs ≡ some q xs
+pub some_same : {X : Type 0} (p q : X → Bool) (xs : List X) → AllByRecursion (λ x. p x ≡ q x) xs → some p xs ≡ some q xs
 some_same p q [] h = refl
 some_same p q (x ∷ xs) h = ap (λ (b : Bool). b || some p xs) h.0 ∙ ap (λ (b : Bool). q x || b) (some_same p q xs h.1)
 
-pub all_of : {X : Type 0} (P : X → Type 0) → ((x : X) → P x) → (xs : List X) → All P xs
+pub all_of : {X : Type 0} (P : X → Type 0) → ((x : X) → P x) → (xs : List X) → AllByRecursion P xs
 all_of P h [] = tt
 all_of P h (x ∷ xs) = (h x, all_of P h xs)
 
@@ -38,7 +38,7 @@ and_true true = refl
 and_true false = refl
 
 -- 1 where none of the elements, seen one way, is counted, is 1 where none, seen the other way, passes
-pub alone_alike : {X Y Z : Type 0} (p : Y → Bool) (q : Z → Bool) (a : X → Y) (b : X → Z) (xs : List X) → All (λ x. p (a x) ≡ q (b x)) xs
+pub alone_alike : {X Y Z : Type 0} (p : Y → Bool) (q : Z → Bool) (a : X → Y) (b : X → Z) (xs : List X) → AllByRecursion (λ x. p (a x) ≡ q (b x)) xs
     → cond {A = ℕ} (eqb (count_by p (map a xs)) 0) 1 0 ≡ cond (some q (map b xs)) 0 1
 alone_alike p q a b xs h =
     ap (λ (t : Bool). cond {A = ℕ} t 1 0) (none_counted p (map a xs))
@@ -60,11 +60,11 @@ map_append_one {Y = Y} f (y ∷ xs) x = ap (λ (zs : List Y). f y ∷ zs) (map_a
 -- counting different elements, seen one way or the other, where both ways tell the same of them
 module _ {X Y Z : Type 0} (a : X → Y) (b : X → Z) (eq : Y → Y → Bool) (p : Y → Bool) (eq' : Z → Z → Bool) (p' : Z → Bool) (Good : X → Type 0)
     (same : (x y : X) → Good x → Good y → eq (a x) (a y) ≡ eq' (b x) (b y)) (pass : (x : X) → Good x → p (a x) ≡ p' (b x)) where
-  some_alike : (x : X) → Good x → (ys : List X) → All Good ys → some (eq (a x)) (map a ys) ≡ some (eq' (b x)) (map b ys)
+  some_alike : (x : X) → Good x → (ys : List X) → AllByRecursion Good ys → some (eq (a x)) (map a ys) ≡ some (eq' (b x)) (map b ys)
   some_alike x hx [] h = refl
   some_alike x hx (y ∷ ys) h = ap (λ (t : Bool). t || some (eq (a x)) (map a ys)) (same x y hx h.0) ∙ ap (λ (t : Bool). eq' (b x) (b y) || t) (some_alike x hx ys h.1)
 
-  pub different_alike : (xs : List X) → All Good xs → different eq p (map a xs) ≡ different eq' p' (map b xs)
+  pub different_alike : (xs : List X) → AllByRecursion Good xs → different eq p (map a xs) ≡ different eq' p' (map b xs)
   different_alike [] h = refl
   different_alike (x ∷ xs) h =
       ap (λ (t : Bool). cond t 0 (cond {A = ℕ} (p (a x)) 1 0) + different eq p (map a xs)) (some_alike x h.0 xs h.1)

@@ -2,7 +2,7 @@
 use Rattle.std.proofs.Common.{◌≡◌, ℕ, zero, suc, ◌+◌, ◌-◌, ◌<◌, ◌≤◌, Bool, true, false, cond, not, ◌&&◌, ◌||◌, eqb, List, [], ◌∷◌, ◌++◌, length, get_or, take, drop, Some, None, sym, refl, ap, ◌∙◌, subst, ⊎_elim, append_assoc, arith}
 use native.Mathlib.Nat.{sub-zero}
 use Rattle.std.proofs.lemmas.List.{at_drop_more, take_more}
-use Rattle.std.specs.List.{AllByRecursion as All}
+use Rattle.std.specs.List.{AllByRecursion}
 use Rattle.std.proofs.lemmas.Bool.Decides.{nat_tests}
 use Rattle.std.proofs.lemmas.Bool.{false≢true, cases_Bool, cases_eq, and_parts, or_parts, not-true, ne_eqb, eq-eqb}
 use Rattle.fields.specs.Orders.{is_field, has, times, EachOnce, first_wrong}
@@ -102,14 +102,14 @@ fields_le : (m : ℕ) (xs : List ℕ) → fields_in m xs ≤ length xs
 fields_le m [] = omega arith
 fields_le m (x ∷ xs) = let l = fields_le m xs in grind (arith, nat_tests)
 
-all_fields : (m : ℕ) (xs : List ℕ) → fields_in m xs ≡ length xs → All (λ x. is_field m x ≡ true) xs
+all_fields : (m : ℕ) (xs : List ℕ) → fields_in m xs ≡ length xs → AllByRecursion (λ x. is_field m x ≡ true) xs
 all_fields m [] e = tt
 all_fields m (x ∷ xs) e =
     let l = fields_le m xs in
     ⊎_elim (λ h. (h, all_fields m xs (let n = ap (λ b. cond b 1 0 + fields_in m xs) h in omega arith)))
     (λ h. absurd (let n = ap (λ b. cond b 1 0 + fields_in m xs) h in omega arith)) (cases_Bool (is_field m x))
 
-right_from_times : (m p : ℕ) (before xs : List ℕ) → All (λ x. is_field m x ≡ true) xs → ((k : ℕ) → is_field m k ≡ true → times k (before ++ xs) ≤ 1) → first_wrong m before p xs ≡ None
+right_from_times : (m p : ℕ) (before xs : List ℕ) → AllByRecursion (λ x. is_field m x ≡ true) xs → ((k : ℕ) → is_field m k ≡ true → times k (before ++ xs) ≤ 1) → first_wrong m before p xs ≡ None
 right_from_times m p before [] all few = refl
 right_from_times m p before (x ∷ xs) all few =
     let fresh : has x before ≡ false =
@@ -118,7 +118,7 @@ right_from_times m p before (x ∷ xs) all few =
     let r = right_from_times m (p + 1) (before ++ x ∷ []) xs all.1 (λ k f. subst (λ l. times k l ≤ 1) (sym (append_assoc before (x ∷ []) xs)) (few k f)) in
     rw (all.0, fresh) r
 
-pub all_from_once : (m : ℕ) (xs : List ℕ) → length xs ≡ m → EachOnce m xs → All (λ x. is_field m x ≡ true) xs
+pub all_from_once : (m : ℕ) (xs : List ℕ) → length xs ≡ m → EachOnce m xs → AllByRecursion (λ x. is_field m x ≡ true) xs
 all_from_once m xs size once = all_fields m xs (sym (counted m xs) ∙ sum_to_ones (λ k. times k xs) m once ∙ sym size)
 
 pub right_from_once : (m : ℕ) (xs : List ℕ) → length xs ≡ m → EachOnce m xs → first_wrong m [] 1 xs ≡ None

@@ -1,6 +1,6 @@
 -- How many labels a call reports.
 use Rattle.std.proofs.Common.{◌≡◌, ℕ, zero, suc, ◌+◌, ◌-◌, ◌≤◌, Bool, true, false, cond, ◌||◌, eqb, List, [], ◌∷◌, ◌++◌, map, length, IfOk, Some, None, Option, sym, refl, ap, ◌∙◌, subst, ⊎_elim, arith}
-use Rattle.std.specs.List.{AllByRecursion as All}
+use Rattle.std.specs.List.{AllByRecursion}
 use Rattle.std.proofs.ByRecursion.{All-weaker}
 use Rattle.std.proofs.lemmas.List.{take_all, map_push}
 use Rattle.std.proofs.lemmas.Bool.{cases_Bool, eqb-true, or_from, both_ways}
@@ -60,25 +60,25 @@ module _ (f g : FilterRow) where
       let all : values f ≡ values g = rebuilt field_count (λ k low high. agree order e k (let t = once k low high in omega arith)) in
       (row_decides (values f) (values g)).1 all
 
-none_same : (order : List ℕ) → EachOnce field_count order → (f : FilterRow) (fs : List FilterRow) → All (λ g. same_values f g ≡ true → ⊥) fs → some (same_row (row order f)) (rows order fs) ≡ false
+none_same : (order : List ℕ) → EachOnce field_count order → (f : FilterRow) (fs : List FilterRow) → AllByRecursion (λ g. same_values f g ≡ true → ⊥) fs → some (same_row (row order f)) (rows order fs) ≡ false
 none_same order once f [] h = refl
 none_same order once f (g ∷ gs) h =
     or_from (same_row (row order f) (row order g)) (some (same_row (row order f)) (rows order gs))
     (⊎_elim (λ t. absurd (h.0 (same_from_row f g order once ((row_decides (row order f) (row order g)).0 t)))) (λ t. t) (cases_Bool (same_row (row order f) (row order g))))
     (none_same order once f gs h.1)
 
-in_bounds : (order : List ℕ) → length order ≡ field_count → EachOnce field_count order → (f : FilterRow) (fs : List FilterRow) → All (λ g. same_values f g ≡ true → ⊥) fs → (new_field_labels f fs ≤ field_count) × (1 ≤ new_node_labels order f fs) × (new_node_labels order f fs ≤ node_count)
+in_bounds : (order : List ℕ) → length order ≡ field_count → EachOnce field_count order → (f : FilterRow) (fs : List FilterRow) → AllByRecursion (λ g. same_values f g ≡ true → ⊥) fs → (new_field_labels f fs ≤ field_count) × (1 ≤ new_node_labels order f fs) × (new_node_labels order f fs ≤ node_count)
 in_bounds order size once f fs apart =
     let last : alone f fs (node_fields order node_count) ≡ 1 = ap (alone f fs) (take_all (node_count + 1) order (omega arith)) ∙ ap (λ (b : Bool). cond {A = ℕ} b 0 1) (none_same order once f fs apart) in
     let low : alone f fs (node_fields order node_count) ≤ new_node_labels order f fs = total_last (alone f fs) (node_fields order) (up_to (node_count - 1)) node_count in
     (alone_le f fs fields, omega arith, alone_le f fs (nodes order))
 
 -- a filter that is taken out has other values than those that are left
-grown_all : (P : FilterRow → Type 0) (f : FilterRow) {xs ys : List FilterRow} → Grown f xs ys → All P ys → P f
+grown_all : (P : FilterRow → Type 0) (f : FilterRow) {xs ys : List FilterRow} → Grown f xs ys → AllByRecursion P ys → P f
 grown_all P f (here xs) h = h.0
 grown_all P f (there y xs ys g) h = grown_all P f g h.1
 
-grown_apart : (R : FilterRow → FilterRow → Type 0) → ((x y : FilterRow) → R x y → R y x) → (f : FilterRow) {xs ys : List FilterRow} → Grown f xs ys → Pairwise R ys → All (R f) xs
+grown_apart : (R : FilterRow → FilterRow → Type 0) → ((x y : FilterRow) → R x y → R y x) → (f : FilterRow) {xs ys : List FilterRow} → Grown f xs ys → Pairwise R ys → AllByRecursion (R f) xs
 grown_apart R turned f (here xs) h = h.0
 grown_apart R turned f (there y xs ys g) h = (turned y f (grown_all (R y) f g h.0), grown_apart R turned f g h.1)
 

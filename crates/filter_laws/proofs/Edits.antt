@@ -1,6 +1,6 @@
 -- Edits of a list of filters: one put in by its rank, and one taken out by its identifier.
 use Rattle.std.proofs.Common.{◌≡◌, ℕ, suc, ◌≤◌, Bool, true, false, cond, ◌⊎◌, List, [], ◌∷◌, length, Some, None, Option, sym, refl, ap, ◌∙◌, subst, inl, inr, ⊎_elim, arith}
-use Rattle.std.specs.List.{AllByRecursion as All}
+use Rattle.std.specs.List.{AllByRecursion}
 use Rattle.std.proofs.ByRecursion.{All-weaker}
 use Rattle.std.proofs.lemmas.Bool.{eqb-true, eqb-false, or_parts, both_ways}
 use Rattle.fields.specs.declared.faults.Fault.{Fault}
@@ -41,15 +41,15 @@ length_without id [] = omega arith
 length_without id (g ∷ gs) =
     without_cases id g gs (λ l. length l ≤ suc (length gs)) (λ e. omega arith) (λ e. let r = length_without id gs in omega arith)
 
-pub all_put : (P : FilterRow → Type 0) (f : FilterRow) (fs : List FilterRow) → P f → All P fs → All P (put f fs)
+pub all_put : (P : FilterRow → Type 0) (f : FilterRow) (fs : List FilterRow) → P f → AllByRecursion P fs → AllByRecursion P (put f fs)
 all_put P f [] new old = (new, tt)
 all_put P f (g ∷ gs) new old =
-    put_cases f g gs (All P) (λ e. (new, old)) (λ e. (old.0, all_put P f gs new old.1))
+    put_cases f g gs (AllByRecursion P) (λ e. (new, old)) (λ e. (old.0, all_put P f gs new old.1))
 
-pub all_without : (P : FilterRow → Type 0) (id : ℕ) (fs : List FilterRow) → All P fs → All P (without id fs)
+pub all_without : (P : FilterRow → Type 0) (id : ℕ) (fs : List FilterRow) → AllByRecursion P fs → AllByRecursion P (without id fs)
 all_without P id [] old = tt
 all_without P id (g ∷ gs) old =
-    without_cases id g gs (All P) (λ e. old.1) (λ e. (old.0, all_without P id gs old.1))
+    without_cases id g gs (AllByRecursion P) (λ e. old.1) (λ e. (old.0, all_without P id gs old.1))
 
 pub pairwise_without : (R : FilterRow → FilterRow → Type 0) (id : ℕ) (fs : List FilterRow) → Pairwise R fs → Pairwise R (without id fs)
 pairwise_without R id [] old = tt
@@ -57,12 +57,12 @@ pairwise_without R id (g ∷ gs) old =
     without_cases id g gs (Pairwise R) (λ e. old.1) (λ e. (all_without (R g) id gs old.0, pairwise_without R id gs old.1))
 
 -- a relation that goes both ways
-pub pairwise_put : (R : FilterRow → FilterRow → Type 0) → ((f g : FilterRow) → R f g → R g f) → (f : FilterRow) (fs : List FilterRow) → All (R f) fs → Pairwise R fs → Pairwise R (put f fs)
+pub pairwise_put : (R : FilterRow → FilterRow → Type 0) → ((f g : FilterRow) → R f g → R g f) → (f : FilterRow) (fs : List FilterRow) → AllByRecursion (R f) fs → Pairwise R fs → Pairwise R (put f fs)
 pairwise_put R turned f [] new old = (tt, tt)
 pairwise_put R turned f (g ∷ gs) new old =
     put_cases f g gs (Pairwise R) (λ e. (new, old)) (λ e. (all_put (R g) f gs (turned f g new.0) old.0, pairwise_put R turned f gs new.1 old.1))
 
-pub ranked_put : (f : FilterRow) (fs : List FilterRow) → All (λ g. f.identifier ≡ g.identifier → ⊥) fs → Pairwise (λ g h. ranks_ahead g h ≡ true) fs → Pairwise (λ g h. ranks_ahead g h ≡ true) (put f fs)
+pub ranked_put : (f : FilterRow) (fs : List FilterRow) → AllByRecursion (λ g. f.identifier ≡ g.identifier → ⊥) fs → Pairwise (λ g h. ranks_ahead g h ≡ true) fs → Pairwise (λ g h. ranks_ahead g h ≡ true) (put f fs)
 ranked_put f [] new old = (tt, tt)
 ranked_put f (g ∷ gs) new old =
     put_cases f g gs (Pairwise (λ x y. ranks_ahead x y ≡ true))
@@ -70,22 +70,22 @@ ranked_put f (g ∷ gs) new old =
     (λ e. (all_put (λ h. ranks_ahead g h ≡ true) f gs (ahead_total f g new.0 e) old.0, ranked_put f gs new.1 old.1))
 
 -- what the checks of an add tell of every standing filter
-pub fresh_all : (id : ℕ) (fs : List FilterRow) → some (same_identifier id) fs ≡ false → All (λ g. id ≡ g.identifier → ⊥) fs
+pub fresh_all : (id : ℕ) (fs : List FilterRow) → some (same_identifier id) fs ≡ false → AllByRecursion (λ g. id ≡ g.identifier → ⊥) fs
 fresh_all id [] h = tt
 fresh_all id (g ∷ gs) h =
     let p = or_parts (same_identifier id g) (some (same_identifier id) gs) h in
     (eqb-false id g.identifier p.0, fresh_all id gs p.1)
 
-pub untwinned : (f : FilterRow) (fs : List FilterRow) → twin fs f ≡ None → All (λ g. same_values g f ≡ true → ⊥) fs
+pub untwinned : (f : FilterRow) (fs : List FilterRow) → twin fs f ≡ None → AllByRecursion (λ g. same_values g f ≡ true → ⊥) fs
 untwinned f [] h = tt
 untwinned f (g ∷ gs) h = by_test (same_values g f) refl h (untwinned f gs)
   where
-    by_test : (b : Bool) → same_values g f ≡ b → cond b (Some (Twin g.identifier)) (twin gs f) ≡ None → (twin gs f ≡ None → All (λ x. same_values x f ≡ true → ⊥) gs) → (same_values g f ≡ true → ⊥) × All (λ x. same_values x f ≡ true → ⊥) gs
+    by_test : (b : Bool) → same_values g f ≡ b → cond b (Some (Twin g.identifier)) (twin gs f) ≡ None → (twin gs f ≡ None → AllByRecursion (λ x. same_values x f ≡ true → ⊥) gs) → (same_values g f ≡ true → ⊥) × AllByRecursion (λ x. same_values x f ≡ true → ⊥) gs
     by_test true e n rest = absurd (let z : ◌≡◌ {A = ℕ} 0 1 = cc in omega arith)
     by_test false e n rest = ((λ t. both_ways (same_values g f) e t), rest n)
 
 -- who is among the filters afterwards
-pub all_among : (P : FilterRow → Type 0) (x : FilterRow) (fs : List FilterRow) → All P fs → Among x fs → P x
+pub all_among : (P : FilterRow → Type 0) (x : FilterRow) (fs : List FilterRow) → AllByRecursion P fs → Among x fs → P x
 all_among P x [] h z = absurd z
 all_among P x (g ∷ gs) h (inl e) = subst P e h.0
 all_among P x (g ∷ gs) h (inr m) = all_among P x gs h.1 m

@@ -1,6 +1,6 @@
 -- Histories: the filters that stand after a list of calls, told by what was added and removed.
 use Rattle.std.specs.Prelude.{◌≡◌, ℕ, ◌<◌, ◌≤◌, true, List, length, take, Some, None, ◌≢◌}
-use Rattle.std.specs.List.{AllByRecursion as All, slice_get}
+use Rattle.std.specs.List.{AllByRecursion, slice_get}
 use Rattle.filters.specs.declared.rows.FilterRow.{FilterRow}
 use Rattle.filters.specs.declared.calls.Call.{Call}
 use Rattle.filters.specs.declared.calls.Call.TheVariants.{Add, Remove}
@@ -18,7 +18,7 @@ pub record Added (calls : List Call) (f : FilterRow) : Type 0 where
 -- in rank order, each identifier and each row of values once, and no more than there is room for
 pub record Ordered (fs : List FilterRow) : Type 0 where
   pub few : length fs ≤ capacity
-  pub formed : All (λ f. lawful f ≡ true) fs
+  pub formed : AllByRecursion (λ f. lawful f ≡ true) fs
   pub ranked : Pairwise (λ f g. ranks_ahead f g ≡ true) fs
   pub identifiers : Pairwise (λ f g. f.identifier ≢ g.identifier) fs
   pub rows : Pairwise (λ f g. same_values f g ≢ true) fs

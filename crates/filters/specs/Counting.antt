@@ -1,6 +1,6 @@
 -- Lists: membership, pairs of elements, and how many elements there are of a sort.
 use Rattle.std.specs.Prelude.{◌≡◌, ℕ, zero, suc, ◌+◌, Bool, true, false, cond, ◌&&◌, ◌||◌, ◌⊎◌, List, [], ◌∷◌, ◌++◌}
-use Rattle.std.specs.List.{AllByRecursion as All}
+use Rattle.std.specs.List.{AllByRecursion}
 
 -- x is an element
 abbrev pub Among : {X : Type 0} → X → List X → Type 0
@@ -10,7 +10,7 @@ Among x (y ∷ ys) = (y ≡ x) ⊎ Among x ys
 -- each element is related to every later one
 abbrev pub Pairwise : {X : Type 0} → (X → X → Type 0) → List X → Type 0
 Pairwise R [] = Unit {0}
-Pairwise R (x ∷ xs) = All (R x) xs × Pairwise R xs
+Pairwise R (x ∷ xs) = AllByRecursion (R x) xs × Pairwise R xs
 
 -- some element passes
 abbrev pub some : {X : Type 0} → (X → Bool) → List X → Bool

@@ -1,7 +1,7 @@
 -- The labels of the values that pass a test: which they are, and how many.
 use Rattle.std.proofs.Common.{◌≡◌, ℕ, zero, suc, ◌+◌, ◌<◌, ◌≤◌, Bool, true, false, cond, List, [], ◌∷◌, map, length, get_or, take, drop, Some, None, Decides, count_by, Option, sym, refl, ap, ◌∙◌, subst, inl, inr, arith}
 use lib.Seq.{take-append-le}
-use Rattle.std.specs.List.{AllByRecursion as All}
+use Rattle.std.specs.List.{AllByRecursion}
 use Rattle.std.proofs.lemmas.List.{take_all}
 use Rattle.std.proofs.lemmas.List.Sums.{sum_by-cons}
 use Rattle.std.proofs.lemmas.Bool.{cases_Bool, eq-eqb, ne_eqb, both_ways}
@@ -64,7 +64,7 @@ module _ {K : Type 0} (eq : K → K → Bool) (law : (a b : K) → Decides (eq a
   found_different p = count_marked (hit p) (keys slots) 0 ∙ as_many eq law slots fs h p
 
   -- a standing filter's label is found exactly if its key passes
-  pub labels_tested : (p : K → Bool) → All (λ f. member f.label (labels_of p (keys slots)) ≡ p f.key) fs
+  pub labels_tested : (p : K → Bool) → AllByRecursion (λ f. member f.label (labels_of p (keys slots)) ≡ p f.key) fs
   labels_tested p =
       all_turn (λ f. here eq f.key (get_or slots f.label None) ≡ true) (λ f. member f.label (labels_of p (keys slots)) ≡ p f.key)
       (λ f q. held_tested eq law p (keys slots) f.label f.key (ap (at eq f.key) (keys_at slots f.label) ∙ at_key eq f.key (get_or slots f.label None) ∙ q))

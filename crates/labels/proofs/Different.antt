@@ -1,6 +1,6 @@
 -- As many labels in use pass a test as there are different standing keys that pass it.
 use Rattle.std.proofs.Common.{◌≡◌, ℕ, ◌<◌, ◌≤◌, Bool, true, false, cond, ◌||◌, ◌⊎◌, List, [], ◌∷◌, map, length, get_or, set, Some, None, Decides, count_by, Option, sym, refl, ap, ◌∙◌, subst, inl, inr, ⊎_elim, arith}
-use Rattle.std.specs.List.{AllByRecursion as All}
+use Rattle.std.specs.List.{AllByRecursion}
 use Rattle.std.proofs.lemmas.List.{get_or-set_same, get_or-set_other, get_or_past}
 use Rattle.std.proofs.lemmas.List.Sums.{sum_by-cons, sum_by-set}
 use Rattle.std.proofs.lemmas.Bool.{cases_eq, cases_lt, cases_Bool, both_ways}
@@ -46,7 +46,7 @@ module _ {K : Type 0} (eq : K → K → Bool) (law : (a b : K) → Decides (eq a
   abbrev Somewhere : List (Option K) → K → Type 0
   Somewhere xs k = (i : ℕ) × (at eq k (get_or xs i None) ≡ true)
 
-  apart_all : (k : K) (ks : List K) → some (eq k) ks ≡ false → (Q R : K → Type 0) → ((x : K) → (k ≡ x → ⊥) → Q x → R x) → All Q ks → All R ks
+  apart_all : (k : K) (ks : List K) → some (eq k) ks ≡ false → (Q R : K → Type 0) → ((x : K) → (k ≡ x → ⊥) → Q x → R x) → AllByRecursion Q ks → AllByRecursion R ks
   apart_all k [] h Q R f q = tt
   apart_all k (x ∷ ks) h Q R f q =
       let c : (eq k x ≡ false) × (some (eq k) ks ≡ false) = split (eq k x) (some (eq k) ks) h in
@@ -56,7 +56,7 @@ module _ {K : Type 0} (eq : K → K → Bool) (law : (a b : K) → Decides (eq a
       split true b g = absurd (both_ways true g refl)
       split false b g = (refl, g)
 
-  counted : (xs : List (Option K)) (ks : List K) → Apart xs → All (Somewhere xs) ks → ((i : ℕ) (k : K) → at eq k (get_or xs i None) ≡ true → some (eq k) ks ≡ true) → count_by test xs ≡ different eq P ks
+  counted : (xs : List (Option K)) (ks : List K) → Apart xs → AllByRecursion (Somewhere xs) ks → ((i : ℕ) (k : K) → at eq k (get_or xs i None) ≡ true → some (eq k) ks ≡ true) → count_by test xs ≡ different eq P ks
   counted xs [] single where-is only = none_passes xs (λ i k h. both_ways false refl (only i k h))
   counted xs (k ∷ ks) single where-is only =
       elim (cases_Bool (some (eq k) ks)) [
@@ -93,7 +93,7 @@ module _ {K : Type 0} (eq : K → K → Bool) (law : (a b : K) → Decides (eq a
         | inr e ↦ ap (λ (b : Bool). (b || some (eq k) (map (λ g. g.key) fs))) e ∙ counted_has k fs (omega (arith, s, ap (λ (b : Bool). cond {A = ℕ} b 1 0) e))
       ]
 
-  all_map : {X Y : Type 0} (g : X → Y) (Q : Y → Type 0) (xs : List X) → All (λ x. Q (g x)) xs → All Q (map g xs)
+  all_map : {X Y : Type 0} (g : X → Y) (Q : Y → Type 0) (xs : List X) → AllByRecursion (λ x. Q (g x)) xs → AllByRecursion Q (map g xs)
   all_map g Q [] h = tt
   all_map g Q (x ∷ xs) h = (h.0, all_map g Q xs h.1)
 

@@ -1,6 +1,6 @@
 -- What each step of a label table does to the relation between the table and the standing filters.
 use Rattle.std.proofs.Common.{◌≡◌, ℕ, zero, suc, ◌+◌, ◌-◌, ◌<◌, ◌≤◌, Bool, true, false, cond, ◌≢◌, List, [], ◌∷◌, ◌++◌, length, get_or, set, replicate, Some, None, Decides, sum_by, count_by, Option, sym, refl, ap, ◌∙◌, subst, inl, inr, ⊎_elim, arith, length-append, length-set}
-use Rattle.std.specs.List.{AllByRecursion as All}
+use Rattle.std.specs.List.{AllByRecursion}
 use Rattle.std.proofs.lemmas.List.{get_or-set_same, get_or-set_other, get_or_past, map-set}
 use lib.Seq.{map-set_same}
 use Rattle.std.proofs.lemmas.List.Sums.{sum_by-cons, sum_by-append, sum_by-set, get_or-le-sum_by}
@@ -28,15 +28,15 @@ sum_insert f front back x =
 pub length-insert : {X : Type 0} (front back : List X) (x : X) → length (front ++ x ∷ back) ≡ length (front ++ back) + 1
 length-insert front back x = omega (arith, length-append front (x ∷ back), length-append front back)
 
-pub all_insert : {X : Type 0} (P : X → Type 0) (front back : List X) (x : X) → All P (front ++ back) → P x → All P (front ++ x ∷ back)
+pub all_insert : {X : Type 0} (P : X → Type 0) (front back : List X) (x : X) → AllByRecursion P (front ++ back) → P x → AllByRecursion P (front ++ x ∷ back)
 all_insert P [] back x h p = (p, h)
 all_insert P (a ∷ front) back x h p = (h.0, all_insert P front back x h.1 p)
 
-pub all_delete : {X : Type 0} (P : X → Type 0) (front back : List X) (x : X) → All P (front ++ x ∷ back) → All P (front ++ back) × P x
+pub all_delete : {X : Type 0} (P : X → Type 0) (front back : List X) (x : X) → AllByRecursion P (front ++ x ∷ back) → AllByRecursion P (front ++ back) × P x
 all_delete P [] back x h = (h.1, h.0)
 all_delete P (a ∷ front) back x h = let r = all_delete P front back x h.1 in ((h.0, r.0), r.1)
 
-pub all_turn : {X : Type 0} (P Q : X → Type 0) → ((x : X) → P x → Q x) → (xs : List X) → All P xs → All Q xs
+pub all_turn : {X : Type 0} (P Q : X → Type 0) → ((x : X) → P x → Q x) → (xs : List X) → AllByRecursion P xs → AllByRecursion Q xs
 all_turn P Q f [] h = tt
 all_turn P Q f (x ∷ xs) h = (f x h.0, all_turn P Q f xs h.1)
 
@@ -72,13 +72,13 @@ bit_true : (b : Bool) → b ≡ true → cond {A = ℕ} b 1 0 ≡ 1
 bit_true b h = rw h
 
 -- what is counted nowhere is not there
-count_zero : {X : Type 0} (p : X → Bool) (xs : List X) → count_by p xs ≡ 0 → All (λ x. p x ≡ false) xs
+count_zero : {X : Type 0} (p : X → Bool) (xs : List X) → count_by p xs ≡ 0 → AllByRecursion (λ x. p x ≡ false) xs
 count_zero p [] h = tt
 count_zero p (x ∷ xs) h =
     let s = sum_by-cons (λ y. cond {A = ℕ} (p y) 1 0) x xs in
     (bit_false (p x) (omega arith), count_zero p xs (omega arith))
 
-all_both : {X : Type 0} (P Q : X → Type 0) (xs : List X) → All P xs → All Q xs → All (λ x. P x × Q x) xs
+all_both : {X : Type 0} (P Q : X → Type 0) (xs : List X) → AllByRecursion P xs → AllByRecursion Q xs → AllByRecursion (λ x. P x × Q x) xs
 all_both P Q [] h k = tt
 all_both P Q (x ∷ xs) h k = ((h.0, k.0), all_both P Q xs h.1 k.1)
 

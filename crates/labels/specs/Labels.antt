@@ -1,7 +1,7 @@
 -- Labels with counts: what a label table holds, and when it labels the keys of the standing filters.
 -- A key is a field's value or, at a node, a pair of labels. Every standing filter has one key and one label in a table.
 use Rattle.std.specs.Prelude.{◌≡◌, ℕ, ◌<◌, Bool, true, false, cond, List, map, length, get_or, Some, None, sum_by, count_by, Option, slice_index_or, slice_set}
-use Rattle.std.specs.List.{AllByRecursion as All}
+use Rattle.std.specs.List.{AllByRecursion}
 use Rattle.parts.specs.Meaning.{place_count, at}
 use Rattle.parts.specs.Marks.{hit}
 use Rattle.filters.specs.Counting.{different}
@@ -50,7 +50,7 @@ pub record Labelled {K : Type 0} (eq : K → K → Bool) (slots : List (Option (
   -- the counts of a key, over all slots, are how many standing filters have it
   pub counts : (k : K) → sum_by (share eq k) slots ≡ occurrences eq k fs
   -- each standing filter's key is at its label
-  pub holds : All (λ f. here eq f.key (slice_index_or slots f.label None) ≡ true) fs
+  pub holds : AllByRecursion (λ f. here eq f.key (slice_index_or slots f.label None) ≡ true) fs
   -- a slot in use counts some standing filter
   pub live : (i : ℕ) → used (slice_index_or slots i None) ≡ true → 0 < uses (slice_index_or slots i None)
   -- no key is at two slots

@@ -1,6 +1,6 @@
 -- A filter's label at a node is found exactly if its labels in the fields up to it are.
 use Rattle.std.proofs.Common.{◌≡◌, ℕ, zero, suc, ◌+◌, ◌*◌, ◌<◌, ◌≤◌, Bool, true, false, cond, ◌&&◌, ◌||◌, eqb, List, [], ◌∷◌, map, length, get_or, Some, None, Decides, Option, sym, refl, ap, ◌∙◌, subst, add-one, arith}
-use Rattle.std.specs.List.{AllByRecursion as All}
+use Rattle.std.specs.List.{AllByRecursion}
 use Rattle.std.proofs.ByRecursion.{All-get_or}
 use Rattle.std.proofs.lemmas.Bool.{eqb-true, eq-eqb, both_ways}
 use Rattle.labels.specs.Labels.{Standing, here, keys}
@@ -38,11 +38,11 @@ module _ (places : ℕ → List (Option Pair)) where
       ∙ held_tested same_pair pair_decides (both_found (reached places found n) (found (n + 1))) (places n) (get_or f.along (n + 1) 0) (key_at n f) (holds n (omega arith))
       ∙ ap (λ (b : Bool). b && member (get_or f.fields (n + 1) 0) (found (n + 1))) before
 
-pub all_unmap : {X Y : Type 0} (f : X → Y) (P : Y → Type 0) (xs : List X) → All P (map f xs) → All (λ x. P (f x)) xs
+pub all_unmap : {X Y : Type 0} (f : X → Y) (P : Y → Type 0) (xs : List X) → AllByRecursion P (map f xs) → AllByRecursion (λ x. P (f x)) xs
 all_unmap f P [] h = tt
 all_unmap f P (x ∷ xs) h = (h.0, all_unmap f P xs h.1)
 
-all_both : {X : Type 0} (P Q : X → Type 0) (xs : List X) → All P xs → All Q xs → All (λ x. P x × Q x) xs
+all_both : {X : Type 0} (P Q : X → Type 0) (xs : List X) → AllByRecursion P xs → AllByRecursion Q xs → AllByRecursion (λ x. P x × Q x) xs
 all_both P Q [] p q = tt
 all_both P Q (x ∷ xs) p q = ((p.0, q.0), all_both P Q xs p.1 q.1)
 
@@ -55,11 +55,11 @@ both_or_none false false f g = refl
 -- counting different elements by another equality and test that say the same of them
 module _ {X Y : Type 0} (a : X → Y) (eq : Y → Y → Bool) (p : Y → Bool) (eq' : X → X → Bool) (p' : X → Bool) (Good : X → Type 0)
     (same : (f g : X) → Good f → Good g → eq (a f) (a g) ≡ eq' f g) (pass : (f : X) → Good f → p (a f) ≡ p' f) where
-  some_same : (f : X) → Good f → (gs : List X) → All Good gs → some (eq (a f)) (map a gs) ≡ some (eq' f) gs
+  some_same : (f : X) → Good f → (gs : List X) → AllByRecursion Good gs → some (eq (a f)) (map a gs) ≡ some (eq' f) gs
   some_same f hf [] h = refl
   some_same f hf (g ∷ gs) h = ap (λ (b : Bool). b || some (eq (a f)) (map a gs)) (same f g hf h.0) ∙ ap (λ (b : Bool). eq' f g || b) (some_same f hf gs h.1)
 
-  different_same : (fs : List X) → All Good fs → different eq p (map a fs) ≡ different eq' p' fs
+  different_same : (fs : List X) → AllByRecursion Good fs → different eq p (map a fs) ≡ different eq' p' fs
   different_same [] h = refl
   different_same (f ∷ fs) h =
       ap (λ (b : Bool). cond b 0 (cond (p (a f)) 1 0) + different eq p (map a fs)) (some_same f h.0 fs h.1)
@@ -70,13 +70,13 @@ map_keys : (j : ℕ) (fs : List Filed) → map (λ (x : Standing Pair). x.key) (
 map_keys j [] = refl
 map_keys j (f ∷ fs) = ap (λ (ps : List Pair). key_at j f ∷ ps) (map_keys j fs)
 
-all_swap : {X : Type 0} (Q : ℕ → X → Type 0) (n : ℕ) (xs : List X) → ((j : ℕ) → j < n → All (Q j) xs) → All (λ x. (j : ℕ) → j < n → Q j x) xs
+all_swap : {X : Type 0} (Q : ℕ → X → Type 0) (n : ℕ) (xs : List X) → ((j : ℕ) → j < n → AllByRecursion (Q j) xs) → AllByRecursion (λ x. (j : ℕ) → j < n → Q j x) xs
 all_swap Q n [] h = tt
 all_swap Q n (x ∷ xs) h = (λ j l. (h j l).0, all_swap Q n xs (λ j l. (h j l).1))
 
 module _ {S : Type 0} (shows : S → Meaning Pair → Type 0) (d : Board Pair S Pair) (nodes : List (Board Pair S Pair)) (fs : List Filed) (ns : List ℕ) (n : ℕ) (s : Nodes shows nodes fs ns n) where
   -- each of the nodes holds each filter's combination
-  all_hold : All (λ f. (j : ℕ) → j < n → Holds (places_of d nodes) j f) fs
+  all_hold : AllByRecursion (λ f. (j : ℕ) → j < n → Holds (places_of d nodes) j f) fs
   all_hold =
       all_swap (λ j f. Holds (places_of d nodes) j f) n fs
       (λ j l.
@@ -88,7 +88,7 @@ module _ {S : Type 0} (shows : S → Meaning Pair → Type 0) (d : Board Pair S 
 
   -- each standing filter is found at the last node exactly if all its labels were found
   pub all_reached : (found : ℕ → List ℕ) (last : List ℕ) → last ≡ reached (places_of d nodes) found n
-      → All (λ f. First f → member (get_or f.along n 0) last ≡ all_found found f n) fs
+      → AllByRecursion (λ f. First f → member (get_or f.along n 0) last ≡ all_found found f n) fs
   all_reached found last e =
       all_turn (λ f. (j : ℕ) → j < n → Holds (places_of d nodes) j f) (λ f. First f → member (get_or f.along n 0) last ≡ all_found found f n)
       (λ f holds first. ap (member (get_or f.along n 0)) e ∙ found_iff (places_of d nodes) found f first n holds)
@@ -118,8 +118,8 @@ module _ {S : Type 0} (shows : S → Meaning Pair → Type 0) (d : Board Pair S 
       (λ e. eq-eqb x y (single m (omega arith) x y (key_at m g) (subst (λ (q : Pair). at same_pair q (get_or (places_of d nodes m) x None) ≡ true) ((pair_decides (key_at m f) (key_at m g)).0 e) f-here) g-here))
       ∙ ap (λ (b : Bool). b && eqb (get_or f.fields (m + 1) 0) (get_or g.fields (m + 1) 0)) (label_same m (omega arith) f g hf hg)
 
-  module _ (first : All First fs) where
-    pub all_good : All Good fs
+  module _ (first : AllByRecursion First fs) where
+    pub all_good : AllByRecursion Good fs
     all_good = all_both First (λ f. (j : ℕ) → j < n → Holds (places_of d nodes) j f) fs first all_hold
 
     pub one_label : OneLabel fs n

@@ -1,6 +1,6 @@
 // The network: five nodes in a row over any make of store, combining the fields in a formed order.
 ghost use Rattle.std.specs.Prelude.{◌≡◌, ℕ, ◌+◌, ◌-◌, ◌<◌, ◌≤◌, List, [], ◌∷◌, ◌++◌, map, length, slice_index, slice_index_or};
-ghost use Rattle.std.specs.List.{AllByRecursion as All};
+ghost use Rattle.std.specs.List.{AllByRecursion};
 ghost use Rattle.labels.specs.Labels.{occurrences};
 ghost use Rattle.parts.specs.Asked.{Succeeds};
 ghost use Rattle.stores.specs.Pairs.{same_pair};
@@ -98,7 +98,7 @@ impl<S: Store> Network<S> {
 
     // How many standing filters have a label at a node, counted from 0; 0 where there is no such node.
     pub fn count(&self, node: usize, label: u8) -> u8
-        ensures { (fs : List Filed) (ns : List ℕ) → Nodes S.Told.shows self.now.nodes fs ns 5 → node < 5 → All (λ f. slice_index f.along (node + 1) ≡ label → result ≡ occurrences same_pair (key_at node f) (map (at_node node) fs)) fs }
+        ensures { (fs : List Filed) (ns : List ℕ) → Nodes S.Told.shows self.now.nodes fs ns 5 → node < 5 → AllByRecursion (λ f. slice_index f.along (node + 1) ≡ label → result ≡ occurrences same_pair (key_at node f) (map (at_node node) fs)) fs }
     {
         if node >= NODES {
             return 0;
@@ -108,7 +108,7 @@ impl<S: Store> Network<S> {
 
     // How many combination labels are in use, at all nodes together.
     pub fn in_use(&self) -> usize
-        ensures { (fs : List Filed) (ns : List ℕ) → Nodes S.Told.shows self.now.nodes fs ns 5 → All First fs → result ≡ rows_in_use fs 5 }
+        ensures { (fs : List Filed) (ns : List ℕ) → Nodes S.Told.shows self.now.nodes fs ns 5 → AllByRecursion First fs → result ≡ rows_in_use fs 5 }
     {
         let mut total = 0;
         for k in 0..NODES {

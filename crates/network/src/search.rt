@@ -1,6 +1,6 @@
 // Search along the nodes, from the labels found in the fields.
 ghost use Rattle.std.specs.Prelude.{◌≡◌, ℕ, List, length, take, slice_index};
-ghost use Rattle.std.specs.List.{AllByRecursion as All};
+ghost use Rattle.std.specs.List.{AllByRecursion};
 ghost use Rattle.parts.specs.Asked.{Succeeds};
 ghost use Rattle.stores.specs.declared.pairs.Pair.{Pair};
 ghost use Rattle.labelling.specs.declared.board.Board.{Board};
@@ -28,8 +28,8 @@ pub struct Searched {
 impl<S: Store> Network<S> {
     // Asks along the nodes, from the labels found in the fields.
     pub fn ask(&mut self, fields: &[Found; FIELDS]) -> Result<Searched, Fault>
-        ensures asked { (fs : List Filed) (ns : List ℕ) (d : Board Pair S Pair) → Nodes S.Told.shows self.old.nodes fs ns 5 → ((j : ℕ) → Labels (found_in fields.now j)) → Succeeds result (λ s. AskedAlong S.Told.shows S.Told.agrees d self.old.nodes self.new.nodes (found_at self.old.order.fields fields.now) ns 5 × (take s.found.count s.found.labels ≡ reached (places_of d self.old.nodes) (found_at self.old.order.fields fields.now) 5) × (s.asked ≡ pairs (places_of d self.old.nodes) (found_at self.old.order.fields fields.now) 5) × All (λ f. First f → member (slice_index f.along 5) (take s.found.count s.found.labels) ≡ all_found (found_at self.old.order.fields fields.now) f 5) fs) }
-        ensures laws { (fs : List Filed) (ns : List ℕ) (d : Board Pair S Pair) → Nodes S.Told.shows self.old.nodes fs ns 5 → All First fs → OneLabel fs 5 × ((found : ℕ → List ℕ) → pairs (places_of d self.old.nodes) found 5 ≡ pairs_by_rows found fs 5) }
+        ensures asked { (fs : List Filed) (ns : List ℕ) (d : Board Pair S Pair) → Nodes S.Told.shows self.old.nodes fs ns 5 → ((j : ℕ) → Labels (found_in fields.now j)) → Succeeds result (λ s. AskedAlong S.Told.shows S.Told.agrees d self.old.nodes self.new.nodes (found_at self.old.order.fields fields.now) ns 5 × (take s.found.count s.found.labels ≡ reached (places_of d self.old.nodes) (found_at self.old.order.fields fields.now) 5) × (s.asked ≡ pairs (places_of d self.old.nodes) (found_at self.old.order.fields fields.now) 5) × AllByRecursion (λ f. First f → member (slice_index f.along 5) (take s.found.count s.found.labels) ≡ all_found (found_at self.old.order.fields fields.now) f 5) fs) }
+        ensures laws { (fs : List Filed) (ns : List ℕ) (d : Board Pair S Pair) → Nodes S.Told.shows self.old.nodes fs ns 5 → AllByRecursion First fs → OneLabel fs 5 × ((found : ℕ → List ℕ) → pairs (places_of d self.old.nodes) found 5 ≡ pairs_by_rows found fs 5) }
         ensures order { self.new.order ≡ self.old.order }
     {
         let start = field_index(&self.order, 1);

@@ -1,6 +1,6 @@
 -- The marks that are set, and lists written from their start.
 use Rattle.std.proofs.Common.{◌≡◌, ℕ, zero, suc, ◌+◌, ◌<◌, ◌≤◌, Bool, true, false, cond, List, [], ◌∷◌, ◌++◌, length, get_or, take, drop, set, sym, refl, ap, ◌∙◌, subst, append_assoc, append-nil, arith, length-append, drop-cons}
-use Rattle.std.specs.List.{AllByRecursion as All}
+use Rattle.std.specs.List.{AllByRecursion}
 use Rattle.std.proofs.ByRecursion.{All-get_or, All-weaker}
 use Rattle.std.proofs.lemmas.List.{take_more, take_at, set_at, length-take-le, get_or_default}
 use Rattle.parts.specs.Marks.{marked, marked_from, over_start, ListsMarked}
@@ -39,7 +39,7 @@ pub turn_kept : (ms : List Bool) (i : ℕ) → i < length ms → get_or ms i fal
 turn_kept ms i l m = marked_more ms i l ∙ ap (λ (b : Bool). marked (take i ms) ++ cond b (i ∷ []) []) m ∙ append-nil (marked (take i ms))
 
 -- every label that is written is at least the first place's
-above : (i : ℕ) (ms : List Bool) → All (λ l. i ≤ l) (marked_from i ms)
+above : (i : ℕ) (ms : List Bool) → AllByRecursion (λ l. i ≤ l) (marked_from i ms)
 above i [] = tt
 above i (true ∷ ms) = (omega arith, All-weaker (λ l. i + 1 ≤ l) (λ l. i ≤ l) (λ l h. omega arith) (marked_from (i + 1) ms) (above (i + 1) ms))
 above i (false ∷ ms) = All-weaker (λ l. i + 1 ≤ l) (λ l. i ≤ l) (λ l h. omega arith) (marked_from (i + 1) ms) (above (i + 1) ms)

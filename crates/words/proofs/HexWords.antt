@@ -1,7 +1,7 @@
 -- A number below 16 ^ k has one hexadecimal text of k digits.
 use Rattle.std.proofs.Common.{◌≡◌, ℕ, zero, suc, ◌+◌, ◌*◌, ◌/◌, ◌%◌, ◌^◌, ◌<◌, ◌≤◌, List, [], ◌∷◌, ◌++◌, length, get_or, take, Some, None, Option, sym, refl, ap, ◌∙◌, subst, mod-lt, pow-suc, div-add-mod', add-one, arith}
 use native.Mathlib.Nat.{pow-le-pow_right}
-use Rattle.std.specs.List.{AllByRecursion as All}
+use Rattle.std.specs.List.{AllByRecursion}
 use Rattle.std.proofs.lemmas.Nat.{div-mul-add, mod-mul-add, div_below}
 use Rattle.std.proofs.ByRecursion.{All-get_or, All-push, All-weaker}
 use Rattle.std.proofs.lemmas.List.{take_more, length_push, same_from_push}
@@ -28,7 +28,7 @@ hex_same (suc k) m n s t e =
     omega arith
 
 -- each byte of a text is a digit
-hex_digits : (k n : ℕ) → All (λ b. (d : ℕ) × (d < 16) × (b ≡ hex_digit d)) (hex k n)
+hex_digits : (k n : ℕ) → AllByRecursion (λ b. (d : ℕ) × (d < 16) × (b ≡ hex_digit d)) (hex k n)
 hex_digits zero n = tt
 hex_digits (suc k) n = All-push _ (hex k (n / 16)) (hex_digit (n % 16)) (hex_digits k (n / 16)) (n % 16, mod-lt n (omega arith), refl)
 
@@ -58,7 +58,7 @@ module _ (k : ℕ) (word : List ℕ) where
   pub stuck_read : (i : ℕ) → i < length word → ((d : ℕ) → d < 16 → get_or word i 0 ≡ hex_digit d → ⊥) → WordReads None
   stuck_read i l no_digit =
       none_read (λ n e.
-      let h = All-get_or (λ b. (d : ℕ) × (d < 16) × (b ≡ hex_digit d)) word i 0 l (subst (All (λ b. (d : ℕ) × (d < 16) × (b ≡ hex_digit d))) (sym e) (hex_digits k n)) in
+      let h = All-get_or (λ b. (d : ℕ) × (d < 16) × (b ≡ hex_digit d)) word i 0 l (subst (AllByRecursion (λ b. (d : ℕ) × (d < 16) × (b ≡ hex_digit d))) (sym e) (hex_digits k n)) in
       no_digit h.0 h.1 h.2)
 
   pub read_hex : (n : ℕ) → word ≡ hex k n → n < 16 ^ k → WordReads (Some n)
