@@ -1,21 +1,19 @@
 -- Calls as the filter list answers them: refused, or accepted with what the labels tell.
-use Rattle.std.proofs.Common.{◌≡◌, ℕ, zero, suc, ◌+◌, ◌<◌, ◌≤◌, Bool, true, false, cond, ◌||◌, ltb, List, [], ◌∷◌, ◌++◌, map, length, get_or, take, drop, Some, None, Ok, Err, Option, Result, sym, refl, ap, ◌∙◌, subst, arith}
-use Rattle.std.specs.List.{insert, remove}
-use Rattle.std.proofs.lemmas.List.{length-map, map-append}
-use Rattle.std.proofs.lemmas.Bool.{cases_Bool, ltb-true, both_ways}
+use Rattle.std.proofs.Common.{◌≡◌, ℕ, zero, suc, ◌≤◌, Bool, true, false, cond, ◌||◌, List, [], ◌∷◌, ◌++◌, map, length, Some, None, Ok, Err, Option, sym, refl, ap, ◌∙◌, arith}
+use Rattle.std.specs.List.{insert}
+use Rattle.std.proofs.lemmas.Bool.{both_ways}
 use Rattle.fields.specs.declared.faults.Fault.{Fault}
-use Rattle.fields.specs.Faults.{answer, answer_by, unless, first_fault}
+use Rattle.fields.specs.Faults.{answer, answer_by, unless}
 use Rattle.filters.specs.declared.rows.FilterRow.{FilterRow}
 use Rattle.filters.specs.declared.calls.Call.{Call}
 use Rattle.filters.specs.declared.calls.Call.TheVariants.{Add, Remove}
-use Rattle.filters.specs.Counting.{some, before}
+use Rattle.filters.specs.Counting.{some}
 use Rattle.filters.specs.Filters.{row_checks, row_fault, same_identifier, ranks_ahead}
 use Rattle.filters.specs.Standing.{refusal, adding_checks, after, put, without, rank_place, place_of}
-use Rattle.filters.specs.Scans.{first}
 use Rattle.filters.specs.Labels.{of_identifier}
 use Rattle.filters.specs.Answers.{Reply, replies, answer as list_answer}
-use Rattle.filters.proofs.Checks.{fault_append, formed_err}
-use Rattle.filter_table.proofs.Places.{before_le, some_before, put_is, without_is}
+use Rattle.filters.proofs.Checks.{fault_append}
+use Rattle.filter_table.proofs.Places.{before_le, put_is}
 use Rattle.entries.specs.Entries.{Entry, row_of}
 
 -- a refused call

@@ -1,8 +1,8 @@
 -- What an edit of one entry does to the others' counts and to the parts, whether it comes or goes.
-use Rattle.std.proofs.Common.{◌≡◌, ℕ, suc, ◌+◌, ◌<◌, ◌≤◌, Bool, true, false, cond, List, [], ◌∷◌, ◌++◌, map, length, get_or, sym, refl, ap, ◌∙◌, subst, add-one, arith}
+use Rattle.std.proofs.Common.{◌≡◌, ℕ, suc, ◌+◌, ◌<◌, Bool, true, false, cond, List, [], ◌∷◌, ◌++◌, map, get_or, sym, refl, ap, ◌∙◌, subst, add-one, arith}
 use Rattle.std.specs.List.{AllByRecursion}
 use Rattle.std.proofs.lemmas.List.{map-append}
-use Rattle.fields.specs.Orders.{field_count, EachOnce}
+use Rattle.fields.specs.Orders.{field_count}
 use Rattle.fields.proofs.EachOnce.{all_from_once}
 use Rattle.fields.specs.declared.prefixes.Prefix.{Prefix}
 use Rattle.fields.specs.declared.ranges.PortRange.{PortRange}
@@ -11,14 +11,13 @@ use Rattle.fields.specs.declared.flags.FlagMask.{FlagMask}
 use Rattle.fields.specs.declared.orders.NetworkOrder.{NetworkOrder}
 use Rattle.parts.specs.Meaning.{Meaning}
 use Rattle.stores.specs.declared.pairs.Pair.{Pair}
-use Rattle.filters.specs.declared.rows.FilterRow.{FilterRow}
 use Rattle.filters.specs.declared.filter.Filter.{Filter}
 use Rattle.filters.specs.Values.{a_prefix, a_range, a_protocol, a_mask}
 use Rattle.filters.specs.Labels.{alone, node_fields, new_field_labels, new_node_labels}
 use Rattle.labels.proofs.Tables.{all_delete}
 use Rattle.labelling.specs.declared.board.Board.{Board}
 use Rattle.columns.specs.declared.columns.Columns.{Columns}
-use Rattle.columns.specs.Fields.{Placed, Stand, fresh, bit, unused, ToldIf as ToldField, ToldColumns, prefix_eq, range_eq, protocol_eq, flags_eq}
+use Rattle.columns.specs.Fields.{Stand, fresh, bit, unused, ToldIf as ToldField, ToldColumns, prefix_eq, range_eq, protocol_eq, flags_eq}
 use Rattle.network.specs.Nodes.{Filed, First, Nodes, Untold, AsksKept, fresh as fresh_nodes, unused as unused_node}
 use Rattle.entries.specs.Entries.{Entry, row_of, in_columns, in_network}
 use Rattle.entries.proofs.FieldLabels.{field_alone, fields_alone}

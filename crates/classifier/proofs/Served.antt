@@ -1,5 +1,5 @@
 -- The parts serve an entry more, or one less.
-use Rattle.std.proofs.Common.{◌≡◌, ℕ, zero, suc, ◌+◌, ◌-◌, ◌<◌, ◌≤◌, Bool, true, false, cond, ◌&&◌, ltb, leb, List, [], ◌∷◌, ◌++◌, map, length, get_or, take, drop, Some, None, Option, sym, refl, ap, ◌∙◌, subst, arith, length-append}
+use Rattle.std.proofs.Common.{◌≡◌, ℕ, zero, suc, ◌+◌, ◌-◌, ◌<◌, ◌≤◌, true, ◌&&◌, ltb, leb, List, [], ◌∷◌, ◌++◌, map, length, take, drop, Some, None, sym, refl, ap, ◌∙◌, subst, arith, length-append}
 use Rattle.std.specs.List.{insert, remove, AllByRecursion, slice_get}
 use Rattle.std.proofs.lemmas.List.{map-append, length-map, take-append-drop}
 use Rattle.std.proofs.lemmas.List.Edits.{length-insert}
@@ -12,15 +12,14 @@ use Rattle.fields.specs.declared.flags.FlagMask.{FlagMask}
 use Rattle.fields.specs.declared.orders.NetworkOrder.{NetworkOrder}
 use Rattle.parts.specs.Meaning.{Meaning}
 use Rattle.stores.specs.declared.pairs.Pair.{Pair}
-use Rattle.filters.specs.declared.rows.FilterRow.{FilterRow}
 use Rattle.filters.specs.declared.filter.Filter.{Filter}
 use Rattle.filters.specs.Standing.{capacity}
 use Rattle.filter_table.specs.Shifts.{opened, closed, taken}
 use Rattle.filter_table.proofs.Shifting.{opened_held, opened_size, closed_held, closed_size}
 use Rattle.labels.proofs.Tables.{all_insert, all_delete}
 use Rattle.columns.specs.Fields.{Placed, placed, Stand, fresh, ToldColumns}
-use Rattle.network.specs.Nodes.{Filed, filed, First, Nodes, Untold, AsksKept, arranged, fresh as fresh_nodes}
-use Rattle.entries.specs.declared.labels.FilterLabels.{FilterLabels}
+use Rattle.network.specs.Nodes.{Filed, First, Nodes, Untold, AsksKept, fresh as fresh_nodes}
+use Rattle.entries.specs.declared.filter_labels.FilterLabels.{FilterLabels}
 use Rattle.entries.specs.Entries.{Entry, entry, row_of, in_columns, in_network}
 use Rattle.classifier.specs.declared.classifier.Classifier.{Classifier}
 use Rattle.classifier.specs.Standing.{Asked, Serves}

@@ -12,7 +12,7 @@ use Rattle.filters.specs.declared.filter.Filter.{Filter}
 use Rattle.filters.specs.Formed.{plain}
 use Rattle.filters.specs.Labels.{alone, node_fields, new_field_labels, new_node_labels}
 use Rattle.labelling.specs.declared.board.Board.{Board}
-use Rattle.entries.specs.declared.labels.FilterLabels.{FilterLabels}
+use Rattle.entries.specs.declared.filter_labels.FilterLabels.{FilterLabels}
 use Rattle.entries.specs.Entries.{Entry, entry, row_of}
 use Rattle.classifier.specs.declared.classifier.Classifier.{Classifier}
 use Rattle.classifier.specs.Standing.{Asked, Serves}

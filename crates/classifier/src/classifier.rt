@@ -1,6 +1,6 @@
 // The classifier: the standing filters in rank order with their labels, six engines and five nodes.
 use columns::columns::Columns;
-use entries::labels::FilterLabels;
+use entries::filter_labels::FilterLabels;
 use filter_table::shifts::CAPACITY;
 use filter_table::table::FilterTable;
 use network::network::Network;

@@ -1,6 +1,6 @@
 #![tactic(auto)]
 
+pub mod asking;
 pub mod calls;
 pub mod columns;
-pub mod engines;
 pub mod search;

@@ -4,8 +4,8 @@ ghost use Rattle.parts.specs.Asked.{Succeeds};
 ghost use Rattle.labelling.specs.Lists.{found_in};
 ghost use Rattle.columns.specs.Fields.{Placed, Stand, AnsweredColumns, once_more};
 
+use crate::asking::ask;
 use crate::columns::Columns;
-use crate::engines::ask;
 use engines::engine::Engine;
 use fields::faults::Fault;
 use fields::flags::FlagMask;

@@ -1,5 +1,5 @@
 -- Labels tell the standing filters' values apart, in each field and along the nodes.
-use Rattle.std.proofs.Common.{◌≡◌, ℕ, zero, suc, ◌+◌, ◌-◌, ◌<◌, ◌≤◌, Bool, true, false, cond, not, ◌&&◌, ◌||◌, eqb, leb, ◌⊎◌, List, [], ◌∷◌, ◌++◌, map, length, get_or, Some, None, Decides, Option, sym, refl, ap, ◌∙◌, subst, inl, inr, ⊎_elim, arith}
+use Rattle.std.proofs.Common.{◌≡◌, ℕ, zero, suc, ◌-◌, ◌≤◌, Bool, true, false, eqb, leb, List, [], ◌∷◌, map, get_or, Some, None, Decides, Option, sym, refl, ◌∙◌, subst, arith}
 use Rattle.std.specs.List.{AllByRecursion}
 use Rattle.std.proofs.lemmas.Bool.{eqb-true, eq-eqb, both_ways, and_parts, leb-true}
 use Rattle.fields.specs.Orders.{field_count, is_field}
@@ -9,20 +9,18 @@ use Rattle.fields.specs.declared.ranges.PortRange.{PortRange}
 use Rattle.fields.specs.declared.protocols.Protocol.{Protocol}
 use Rattle.fields.specs.declared.flags.FlagMask.{FlagMask}
 use Rattle.filters.specs.declared.filter.Filter.{Filter}
-use Rattle.filters.specs.Formed.{plain}
-use Rattle.filters.specs.Values.{Value, a_prefix, a_range, a_protocol, a_mask, same_value}
+use Rattle.filters.specs.Values.{same_value}
 use Rattle.filters.specs.Filters.{field}
 use Rattle.parts.specs.Meaning.{Meaning}
 use Rattle.stores.specs.declared.pairs.Pair.{Pair}
 use Rattle.labels.specs.declared.table.Used.{Used}
-use Rattle.labels.specs.Labels.{Standing, Labelled, here}
+use Rattle.labels.specs.Labels.{Labelled, here}
 use Rattle.labelling.specs.declared.board.Board.{Board}
 use Rattle.columns.specs.declared.columns.Columns.{Columns}
-use Rattle.columns.specs.Fields.{Placed, in_field, Column, Stand, prefix_eq, range_eq, protocol_eq, flags_eq}
-use Rattle.network.specs.Nodes.{Filed, First, Nodes, alike}
+use Rattle.columns.specs.Fields.{in_field, Stand, prefix_eq, range_eq, protocol_eq, flags_eq}
+use Rattle.network.specs.Nodes.{First, Nodes, alike}
 use Rattle.network.proofs.Reached.{label_same, all_good, all_unmap, Good as GoodFiled}
 use Rattle.entries.specs.Entries.{Entry, row_of, in_columns, in_network}
-use Rattle.entries.proofs.FieldLabels.{same_there}
 
 both_or_none : (x y : Bool) → (x ≡ true → y ≡ true) → (y ≡ true → x ≡ true) → x ≡ y
 both_or_none true true f g = refl

@@ -1,17 +1,13 @@
 -- What the columns count in labels is what the filter list counts in values, field by field.
-use Rattle.std.proofs.Common.{◌≡◌, ℕ, zero, suc, ◌+◌, ◌-◌, ◌<◌, ◌≤◌, Bool, true, false, cond, not, ◌&&◌, ◌||◌, eqb, List, [], ◌∷◌, ◌++◌, map, get_or, Some, None, Decides, count_by, Option, sym, refl, ap, ◌∙◌, subst, arith}
-use Rattle.std.specs.List.{AllByRecursion}
-use Rattle.std.proofs.lemmas.Bool.{eqb-true, eq-eqb, both_ways}
-use Rattle.filters.specs.declared.rows.FilterRow.{FilterRow}
+use Rattle.std.proofs.Common.{◌≡◌, ℕ, Bool, cond, eqb, List, [], ◌∷◌, map, sym, refl, ap, ◌∙◌, arith}
 use Rattle.filters.specs.declared.filter.Filter.{Filter}
 use Rattle.filters.specs.Formed.{plain}
-use Rattle.filters.specs.Counting.{some, total}
+use Rattle.filters.specs.Counting.{some}
 use Rattle.filters.specs.Values.{Value, a_prefix, a_range, a_protocol, a_mask, same_value, same_row}
 use Rattle.filters.specs.Filters.{field, row}
-use Rattle.filters.specs.Labels.{alone, rows, new_field_labels}
-use Rattle.labels.specs.declared.table.Used.{Used}
-use Rattle.labels.specs.Labels.{Standing, standing, Labelled, here, occurrences}
-use Rattle.columns.specs.Fields.{Placed, placed, in_field, unused, bit, fresh, prefix_eq, range_eq, protocol_eq, flags_eq}
+use Rattle.filters.specs.Labels.{alone, new_field_labels}
+use Rattle.labels.specs.Labels.{Standing, occurrences}
+use Rattle.columns.specs.Fields.{in_field, unused, bit, fresh, prefix_eq, range_eq, protocol_eq, flags_eq}
 use Rattle.entries.specs.Entries.{Entry, row_of, in_columns}
 use Rattle.entries.proofs.Passing.{alone_alike, map_map, all_of, and_true}
 

@@ -1,23 +1,23 @@
 -- Search: what is found by labels is what the filter list finds by values.
-use Rattle.std.proofs.Common.{◌≡◌, ℕ, zero, suc, ◌+◌, ◌-◌, ◌*◌, ◌<◌, ◌≤◌, Bool, true, false, cond, not, ◌&&◌, ◌||◌, eqb, leb, ◌⊎◌, List, [], ◌∷◌, ◌++◌, map, length, get_or, take, sym, refl, ap, ◌∙◌, subst, inl, inr, ⊎_elim, add-one, arith}
+use Rattle.std.proofs.Common.{◌≡◌, ℕ, zero, suc, ◌+◌, ◌-◌, ◌*◌, ◌<◌, ◌≤◌, Bool, true, false, cond, ◌&&◌, eqb, leb, List, [], ◌∷◌, ◌++◌, map, length, get_or, take, sym, refl, ap, ◌∙◌, ⊎_elim, add-one, arith}
 use Rattle.std.specs.List.{AllByRecursion}
-use Rattle.std.proofs.lemmas.List.{take_more, take_all}
+use Rattle.std.proofs.lemmas.List.{take_more}
 use Rattle.std.proofs.ByRecursion.{All-get_or}
-use Rattle.std.proofs.lemmas.Bool.{cases_Bool, cases_eq, eqb-true, ne_eqb, both_ways, and_parts, and_from, leb-true}
+use Rattle.std.proofs.lemmas.Bool.{cases_eq, ne_eqb, both_ways, and_parts, and_from, leb-true}
 use Rattle.fields.specs.Orders.{field_count, is_field, times, EachOnce}
 use Rattle.fields.proofs.EachOnce.{all_from_once}
 use Rattle.filters.specs.declared.rows.FilterRow.{FilterRow}
 use Rattle.filters.specs.declared.rows.Header.{Header}
-use Rattle.filters.specs.Counting.{some, every, total, different, up_to}
+use Rattle.filters.specs.Counting.{every, total, different, up_to}
 use Rattle.filters.specs.Values.{Value, value_takes, same_value, row_takes, same_row}
-use Rattle.filters.specs.Filters.{field, row, number_in, numbers_in, matches, values, numbers}
-use Rattle.filters.specs.Labels.{rows, in_use, node_fields, nodes, node_labels, found as found_rows, pairs_at, pairs}
+use Rattle.filters.specs.Filters.{field, row, number_in, numbers_in, matches}
+use Rattle.filters.specs.Labels.{in_use, node_fields, found as found_rows, pairs_at}
 use Rattle.labelling.specs.Boards.{member}
-use Rattle.network.specs.Nodes.{Filed, alike, rows_in_use}
+use Rattle.network.specs.Nodes.{alike, rows_in_use}
 use Rattle.network.specs.Searches.{all_found, rows_found, pairs_by_rows}
 use Rattle.entries.specs.Entries.{Entry, row_of, in_network}
-use Rattle.entries.proofs.Passing.{map_map, total_append, map_append_one, and_true, all_of, different_alike}
-use Rattle.entries.proofs.NodeLabels.{rows_same, map_get_or, map_length}
+use Rattle.entries.proofs.Passing.{map_map, total_append, map_append_one, and_true, different_alike}
+use Rattle.entries.proofs.NodeLabels.{rows_same, map_get_or}
 
 -- rows with one value more
 row_takes_more : (vs : List Value) (ns : List ℕ) (v : Value) (n : ℕ) → length vs ≡ length ns → row_takes (vs ++ v ∷ []) (ns ++ n ∷ []) ≡ (row_takes vs ns && value_takes v n)

@@ -1,19 +1,17 @@
 -- What the network counts in labels is what the filter list counts in rows of values, node by node.
-use Rattle.std.proofs.Common.{◌≡◌, ℕ, zero, suc, ◌+◌, ◌-◌, ◌<◌, ◌≤◌, Bool, true, false, cond, not, ◌&&◌, ◌||◌, eqb, leb, ◌⊎◌, List, [], ◌∷◌, ◌++◌, map, length, get_or, take, Some, None, Decides, count_by, Option, sym, refl, ap, ◌∙◌, subst, inl, inr, ⊎_elim, add-one, arith}
+use Rattle.std.proofs.Common.{◌≡◌, ℕ, zero, suc, ◌+◌, ◌-◌, ◌<◌, ◌≤◌, Bool, true, false, cond, ◌&&◌, eqb, List, [], ◌∷◌, ◌++◌, map, length, get_or, take, sym, refl, ap, ◌∙◌, add-one, arith}
 use Rattle.std.specs.List.{AllByRecursion}
 use Rattle.std.proofs.lemmas.List.{take_more}
 use Rattle.std.proofs.ByRecursion.{All-get_or}
-use Rattle.std.proofs.lemmas.Bool.{eqb-true, eq-eqb, both_ways}
 use Rattle.fields.specs.Orders.{field_count, is_field}
 use Rattle.stores.specs.declared.pairs.Pair.{Pair}
-use Rattle.stores.specs.Pairs.{pair, same_pair}
-use Rattle.filters.specs.declared.rows.FilterRow.{FilterRow}
+use Rattle.stores.specs.Pairs.{same_pair}
 use Rattle.filters.specs.Counting.{some, total, up_to}
 use Rattle.filters.specs.Values.{Value, same_value, same_row}
 use Rattle.filters.specs.Filters.{field, row}
-use Rattle.filters.specs.Labels.{alone, rows, node_fields, nodes, new_node_labels}
+use Rattle.filters.specs.Labels.{alone, node_fields}
 use Rattle.labels.specs.Labels.{Standing, occurrences}
-use Rattle.network.specs.Nodes.{Filed, filed, First, key_at, at_node, alike, arranged, unused, fresh}
+use Rattle.network.specs.Nodes.{key_at, at_node, alike, unused, fresh}
 use Rattle.entries.specs.Entries.{Entry, row_of, in_network}
 use Rattle.entries.proofs.Passing.{alone_alike, map_map, total_append, map_append_one, and_true}
 

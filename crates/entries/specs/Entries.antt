@@ -5,7 +5,7 @@ use Rattle.filters.specs.declared.filter.Filter.{Filter}
 use Rattle.filters.specs.Formed.{plain}
 use Rattle.columns.specs.Fields.{Placed, placed}
 use Rattle.network.specs.Nodes.{Filed, filed, arranged}
-use Rattle.entries.specs.declared.labels.FilterLabels.{FilterLabels}
+use Rattle.entries.specs.declared.filter_labels.FilterLabels.{FilterLabels}
 
 pub record Entry : Type 0 where
   pub filter : Filter

@@ -1,3 +1,3 @@
 #![tactic(auto)]
 
-pub mod labels;
+pub mod filter_labels;

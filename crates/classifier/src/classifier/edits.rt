@@ -12,7 +12,7 @@ ghost use Rattle.classifier.specs.Telling.{Told, Came, Gone};
 
 use crate::classifier::Classifier;
 use engines::engine::Engine;
-use entries::labels::FilterLabels;
+use entries::filter_labels::FilterLabels;
 use fields::faults::Fault;
 use fields::flags::FlagMask;
 use fields::kinds::Kind;

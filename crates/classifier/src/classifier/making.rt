@@ -7,7 +7,7 @@ ghost use Rattle.classifier.specs.Standing.{never_asked, Stands};
 use crate::classifier::Classifier;
 use columns::columns::Columns;
 use engines::engine::Engine;
-use entries::labels::FilterLabels;
+use entries::filter_labels::FilterLabels;
 use fields::flags::FlagMask;
 use fields::orders::{FIELDS, NetworkOrder};
 use fields::prefixes::Prefix;

@@ -1,26 +1,23 @@
-use Rattle.std.proofs.Common.{◌≡◌, ℕ, ◌+◌, ◌<◌, ◌≤◌, Bool, true, false, List, [], ◌∷◌, ◌++◌, map, length, get_or, take, drop, Some, None, Ok, Err, Option, Result, sym, refl, ap, ◌∙◌, subst, arith, rules}
+use Rattle.std.proofs.Common.{◌≡◌, ℕ, ◌<◌, Bool, true, false, List, map, length, Some, None, sym, refl, ap, ◌∙◌, subst, arith}
 use Rattle.std.specs.List.{insert}
 use Rattle.std.proofs.lemmas.List.{length-map}
 use Rattle.std.proofs.lemmas.Result.{err_from_is_err_and}
-use Rattle.fields.specs.declared.faults.Fault.{Fault}
 use Rattle.fields.specs.Faults.{answer_by}
 use Rattle.filters.specs.declared.rows.FilterRow.{FilterRow}
-use Rattle.filters.specs.declared.calls.Call.TheVariants.{Add, Remove}
-use Rattle.filters.specs.Standing.{refusal, after, put, without, rank_place, place_of}
-use Rattle.filters.specs.Labels.{of_identifier, new_field_labels, new_node_labels, freed_field_labels, freed_node_labels, if_any}
-use Rattle.filters.specs.Answers.{added, removed}
+use Rattle.filters.specs.declared.calls.Call.TheVariants.{Add}
+use Rattle.filters.specs.Standing.{refusal, after, put, rank_place}
+use Rattle.filters.specs.Labels.{new_field_labels, new_node_labels}
+use Rattle.filters.specs.Answers.{added}
 use Rattle.filters.specs.Filters.{row_fault}
 use Rattle.filters.specs.Formed.{plain}
-use Rattle.filters.proofs.Checks.{formed_ok, formed_err, accepted_add, accepted_removal}
+use Rattle.filters.proofs.Checks.{formed_ok, formed_err, accepted_add}
 use Rattle.filter_table.specs.declared.table.FilterTable.{FilterTable}
 use Rattle.filter_table.specs.Tables.{held}
-use Rattle.filter_table.proofs.Held.{held_length}
 use Rattle.entries.specs.Entries.{Entry, entry, row_of}
-use Rattle.labelling.proofs.Tells.{some_same}
 use Rattle.classifier.specs.declared.classifier.Classifier.{Classifier}
-use Rattle.classifier.specs.Standing.{Asked, Serves, Stands}
-use Rattle.classifier.specs.Telling.{Told, Came, Gone}
-use Rattle.classifier.proofs.Answered.{refused_answer, accepted_answer, refused_add, refused_remove, accepted_add_list, accepted_remove_list, answered_err, answered_ok, some_or_none, unformed, rank_within, put_entry, Parted, parted}
+use Rattle.classifier.specs.Standing.{Asked, Stands}
+use Rattle.classifier.specs.Telling.{Told, Came}
+use Rattle.classifier.proofs.Answered.{refused_answer, accepted_answer, refused_add, accepted_add_list, answered_err, answered_ok, some_or_none, unformed, rank_within, put_entry}
 use Rattle.classifier.proofs.classifier.Classifier.add.Goals as goal
 
 pub returns-in_err-filter : goal.returns-in_err-filter

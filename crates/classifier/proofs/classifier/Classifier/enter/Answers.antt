@@ -1,8 +1,8 @@
-use Rattle.std.proofs.Common.{◌≡◌, ℕ, ◌+◌, ◌<◌, ◌≤◌, List, [], ◌∷◌, ◌++◌, map, length, get_or, take, drop, sym, refl, ap, ◌∙◌, subst, arith, rules}
+use Rattle.std.proofs.Common.{ℕ, List, map, take, drop, refl, ap, ◌∙◌}
 use Rattle.columns.specs.Fields.{Placed, Stand}
 use Rattle.network.specs.Nodes.{Filed, Nodes}
 use Rattle.filter_table.specs.Shifts.{opened}
-use Rattle.entries.specs.declared.labels.FilterLabels.{FilterLabels}
+use Rattle.entries.specs.declared.filter_labels.FilterLabels.{FilterLabels}
 use Rattle.entries.specs.Entries.{Entry, in_columns, in_network}
 use Rattle.classifier.proofs.Served.{came, few_cut, cut_by}
 use Rattle.classifier.proofs.classifier.Classifier.enter.Goals as goal

@@ -1,9 +1,9 @@
-use Rattle.std.proofs.Common.{◌≡◌, ℕ, ◌+◌, ◌<◌, ◌≤◌, List, [], ◌∷◌, ◌++◌, map, length, get_or, take, drop, replicate, Some, None, Option, sym, refl, ap, ◌∙◌, subst, arith, rules}
+use Rattle.std.proofs.Common.{◌≡◌, ℕ, ◌≤◌, List, ◌∷◌, ◌++◌, map, length, take, Some, None, Option, sym, refl, ap, ◌∙◌, subst, arith}
 use Rattle.labelling.proofs.Tells.{some_same}
 use Rattle.columns.specs.Fields.{Placed, placed, Stand}
 use Rattle.network.specs.Nodes.{Filed, filed, arranged, Nodes, Untold, fresh as fresh_nodes}
 use Rattle.filter_table.specs.Shifts.{closed, taken}
-use Rattle.entries.specs.declared.labels.FilterLabels.{FilterLabels}
+use Rattle.entries.specs.declared.filter_labels.FilterLabels.{FilterLabels}
 use Rattle.entries.specs.Entries.{Entry, in_columns, in_network}
 use Rattle.classifier.proofs.Served.{gone, labels_out, parted_by}
 use Rattle.classifier.proofs.classifier.Classifier.leave.Goals as goal

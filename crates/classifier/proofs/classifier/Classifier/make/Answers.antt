@@ -1,6 +1,4 @@
-use Rattle.std.proofs.Common.{◌≡◌, ℕ, ◌+◌, ◌<◌, ◌≤◌, List, [], ◌∷◌, ◌++◌, map, length, get_or, take, drop, replicate, Some, None, Option, sym, refl, ap, ◌∙◌, subst, arith, rules}
-use Rattle.stores.specs.declared.pairs.Pair.{Pair}
-use Rattle.labelling.specs.declared.board.Board.{Board}
+use Rattle.std.proofs.Common.{[], replicate, None, refl}
 use Rattle.classifier.proofs.classifier.Classifier.make.Goals as goal
 
 pub returns : goal.returns

@@ -3,7 +3,7 @@ use Rattle.fields.specs.declared.faults.Fault.{Fault}
 use Rattle.parts.specs.Marks.{labels_of}
 use Rattle.labelling.proofs.Listed.{take_over}
 use Rattle.labelling.proofs.Tells.{never_err}
-use Rattle.columns.proofs.engines.ask.Goals as goal
+use Rattle.columns.proofs.asking.ask.Goals as goal
 
 ok_same : {A : Type 0} {a b : A} → ◌≡◌ {A = Result A Fault} (Ok a) (Ok b) → a ≡ b
 ok_same {A} {a} {b} e = cc
