@@ -1,5 +1,5 @@
 -- One field of the standing filters, for a value of any kind.
-use Rattle.std.proofs.Common.{◌≡◌, ℕ, zero, suc, ◌+◌, ◌<◌, ◌≤◌, Bool, true, false, cond, eqb, List, [], ◌∷◌, ◌++◌, map, length, get_or, None, Decides, Option, sym, refl, ap, ◌∙◌, subst, arith, length-append}
+use Rattle.std.proofs.Common.{◌≡◌, ℕ, zero, suc, ◌+◌, ◌<◌, ◌≤◌, Bool, true, false, eqb, List, [], ◌∷◌, ◌++◌, map, length, get_or, None, Decides, Option, sym, refl, ap, ◌∙◌, subst, arith, length-append}
 use mir.Val.{bool_byte}
 use Rattle.std.specs.List.{AllByRecursion as All}
 use Rattle.std.proofs.lemmas.List.{length-map, map-append}
@@ -12,7 +12,7 @@ use Rattle.filters.specs.Counting.{different}
 use Rattle.parts.specs.Marks.{hit, labels_of}
 use Rattle.labelling.specs.Boards.{Stands, Labels, member}
 use Rattle.labelling.proofs.Listed.{found_different, labels_tested, marked_labels}
-use Rattle.columns.specs.Fields.{Placed, placed, in_field, unused, bit, ToldIf, FoundIn, Answered, Counted, values_of}
+use Rattle.columns.specs.Fields.{Placed, placed, in_field, unused, bit, ToldIf, Answered, Counted, values_of}
 
 pub bits : (b : Bool) → bool_byte b ≡ bit b
 bits true = refl

@@ -1,14 +1,14 @@
 -- Figures that the definitions of values and orders must give.
-use Rattle.std.specs.Prelude.{◌≡◌, ℕ, true, false, List, [], ◌∷◌, Some, None}
+use Rattle.std.specs.Prelude.{◌≡◌, ℕ, true, false, [], ◌∷◌, Some, None}
 use Rattle.fields.specs.declared.faults.Fault.TheVariants.{Prefix, Range, Order}
 use Rattle.fields.specs.declared.prefixes.PrefixRow.{PrefixRow}
 use Rattle.fields.specs.declared.ranges.RangeRow.{RangeRow}
 use Rattle.fields.specs.declared.flags.FlagRow.{FlagRow}
 use Rattle.fields.specs.Prefixes.{prefix_fault, prefix_takes}
 use Rattle.fields.specs.Ranges.{range_fault, range_takes}
-use Rattle.fields.specs.Flags.{flag_fault, flag_takes}
+use Rattle.fields.specs.Flags.{flag_takes}
 use Rattle.fields.specs.Orders.{order_fault}
-use Rattle.words.specs.Texts.{prefix_text, flag_text}
+use Rattle.words.specs.Texts.{flag_text}
 
 abbrev prefix : ℕ → ℕ → PrefixRow
 prefix a l = record { address = a; length = l }

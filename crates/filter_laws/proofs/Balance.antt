@@ -10,7 +10,6 @@ use Rattle.filters.specs.Counting.{some, total, different}
 use Rattle.filters.specs.Values.{same_row}
 use Rattle.filters.specs.Filters.{row, same_identifier}
 use Rattle.filters.specs.Standing.{refusal, put, without, after}
-use Rattle.filters.specs.Scans.{first}
 use Rattle.filters.specs.Labels.{fields, nodes, in_use, alone, if_any, of_identifier}
 use Rattle.filters.specs.Answers.{Reply, replies, answer}
 use Rattle.filter_laws.specs.Runs.{answers, new_in_fields, new_at_nodes, freed_in_fields, freed_at_nodes, Balanced}

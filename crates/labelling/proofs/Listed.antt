@@ -1,12 +1,12 @@
 -- The labels of the values that pass a test: which they are, and how many.
-use Rattle.std.proofs.Common.{◌≡◌, ℕ, zero, suc, ◌+◌, ◌<◌, ◌≤◌, Bool, true, false, cond, eqb, List, [], ◌∷◌, map, length, get_or, take, drop, Some, None, Decides, count_by, Option, sym, refl, ap, ◌∙◌, subst, inl, inr, arith}
+use Rattle.std.proofs.Common.{◌≡◌, ℕ, zero, suc, ◌+◌, ◌<◌, ◌≤◌, Bool, true, false, cond, List, [], ◌∷◌, map, length, get_or, take, drop, Some, None, Decides, count_by, Option, sym, refl, ap, ◌∙◌, subst, inl, inr, arith}
 use lib.Seq.{take-append-le}
 use Rattle.std.specs.List.{AllByRecursion as All}
-use Rattle.std.proofs.lemmas.List.{take_all, length-map}
+use Rattle.std.proofs.lemmas.List.{take_all}
 use Rattle.std.proofs.lemmas.List.Sums.{sum_by-cons}
 use Rattle.std.proofs.lemmas.Bool.{cases_Bool, eq-eqb, ne_eqb, both_ways}
 use Rattle.labels.specs.declared.table.Used.{Used}
-use Rattle.labels.specs.Labels.{Standing, Labelled, here, keys, key_of}
+use Rattle.labels.specs.Labels.{Standing, Labelled, here, keys}
 use Rattle.labels.proofs.Tables.{keys_at, at_key, all_turn}
 use Rattle.labels.proofs.Different.{as_many}
 use Rattle.filters.specs.Counting.{different}

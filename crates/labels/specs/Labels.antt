@@ -1,6 +1,6 @@
 -- Labels with counts: what a label table holds, and when it labels the keys of the standing filters.
 -- A key is a field's value or, at a node, a pair of labels. Every standing filter has one key and one label in a table.
-use Rattle.std.specs.Prelude.{◌≡◌, ℕ, ◌+◌, ◌<◌, ◌≤◌, Bool, true, false, cond, List, [], ◌∷◌, ◌++◌, map, length, get_or, Some, None, sum_by, count_by, Option, slice_index_or, slice_set}
+use Rattle.std.specs.Prelude.{◌≡◌, ℕ, ◌<◌, Bool, true, false, cond, List, map, length, get_or, Some, None, sum_by, count_by, Option, slice_index_or, slice_set}
 use Rattle.std.specs.List.{AllByRecursion as All}
 use Rattle.parts.specs.Meaning.{place_count, at}
 use Rattle.parts.specs.Marks.{hit}

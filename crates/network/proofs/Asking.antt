@@ -1,7 +1,7 @@
 -- Stores that are asked one pair after another.
-use Rattle.std.proofs.Common.{◌≡◌, ℕ, zero, suc, ◌+◌, ◌-◌, ◌*◌, ◌%◌, ◌^◌, ◌<◌, ◌≤◌, Bool, true, false, cond, List, [], ◌∷◌, ◌++◌, map, length, get_or, take, drop, set, Some, None, Option, sym, refl, ap, ◌∙◌, subst, append_assoc, append-nil, arith, length-append}
+use Rattle.std.proofs.Common.{◌≡◌, ℕ, suc, ◌+◌, ◌<◌, Bool, List, [], ◌∷◌, ◌++◌, length, get_or, take, Option, sym, refl, ap, ◌∙◌, subst, append_assoc, append-nil}
 use Rattle.std.proofs.lemmas.List.{take_more}
-use Rattle.parts.specs.Meaning.{Meaning, meaning, asked_once}
+use Rattle.parts.specs.Meaning.{Meaning, asked_once}
 use Rattle.parts.specs.Marks.{mark_found}
 use Rattle.parts.specs.Asked.{after_questions, Questioned}
 use Rattle.stores.specs.declared.pairs.Pair.{Pair}

@@ -1,11 +1,11 @@
 -- The marks that asking all pairs leaves: those of the places that hold one of them.
-use Rattle.std.proofs.Common.{◌≡◌, ℕ, zero, suc, ◌+◌, ◌-◌, ◌*◌, ◌<◌, ◌≤◌, Bool, true, false, cond, ◌&&◌, eqb, ◌≢◌, ◌⊎◌, List, [], ◌∷◌, ◌++◌, map, length, get_or, set, replicate, Some, None, Decides, Option, sym, refl, ap, ◌∙◌, subst, inl, inr, ⊎_elim, arith, length-append, length-set}
+use Rattle.std.proofs.Common.{◌≡◌, ℕ, zero, suc, ◌+◌, ◌<◌, ◌≤◌, Bool, true, false, cond, ◌&&◌, eqb, List, [], ◌∷◌, ◌++◌, map, length, get_or, set, replicate, Some, None, Decides, Option, sym, refl, ap, ◌∙◌, subst, ⊎_elim, arith, length-set}
 use Rattle.std.proofs.lemmas.List.{get_or-set_same, get_or-set_other, get_or_past, get_or-map, get_or_default, length-map, same_lists}
 use Rattle.std.proofs.lemmas.Bool.{cases_eq, cases_lt, cases_Bool, both_ways}
 use Rattle.parts.specs.Meaning.{at, find, find_from, Single}
 use Rattle.parts.specs.Marks.{mark_found, hit}
 use Rattle.stores.specs.declared.pairs.Pair.{Pair}
-use Rattle.stores.specs.Pairs.{pair, same_pair}
+use Rattle.stores.specs.Pairs.{same_pair}
 use Rattle.stores.specs.Alike.{pair_decides}
 use Rattle.labelling.specs.Boards.{member}
 use Rattle.network.specs.Products.{row, product, both_found, marks_after}

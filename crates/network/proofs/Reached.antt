@@ -1,15 +1,14 @@
 -- A filter's label at a node is found exactly if its labels in the fields up to it are.
-use Rattle.std.proofs.Common.{◌≡◌, ℕ, zero, suc, ◌+◌, ◌-◌, ◌*◌, ◌<◌, ◌≤◌, Bool, true, false, cond, ◌&&◌, ◌||◌, eqb, ◌≢◌, ◌⊎◌, List, [], ◌∷◌, ◌++◌, map, length, get_or, set, Some, None, Decides, Option, sym, refl, ap, ◌∙◌, subst, inl, inr, ⊎_elim, add-one, arith}
+use Rattle.std.proofs.Common.{◌≡◌, ℕ, zero, suc, ◌+◌, ◌*◌, ◌<◌, ◌≤◌, Bool, true, false, cond, ◌&&◌, ◌||◌, eqb, List, [], ◌∷◌, map, length, get_or, Some, None, Decides, Option, sym, refl, ap, ◌∙◌, subst, add-one, arith}
 use Rattle.std.specs.List.{AllByRecursion as All}
 use Rattle.std.proofs.ByRecursion.{All-get_or}
-use Rattle.std.proofs.lemmas.Bool.{cases_eq, cases_lt, cases_Bool, eqb-true, eq-eqb, ne_eqb, both_ways}
-use Rattle.labels.specs.declared.table.Used.{Used}
-use Rattle.labels.specs.Labels.{Standing, standing, Labelled, here, keys, key_of}
+use Rattle.std.proofs.lemmas.Bool.{eqb-true, eq-eqb, both_ways}
+use Rattle.labels.specs.Labels.{Standing, here, keys}
 use Rattle.labels.proofs.Tables.{keys_at, at_key, all_turn}
 use Rattle.parts.specs.Meaning.{Meaning, at}
-use Rattle.parts.specs.Marks.{marked, marked_from, hit, labels_of}
+use Rattle.parts.specs.Marks.{labels_of}
 use Rattle.stores.specs.declared.pairs.Pair.{Pair}
-use Rattle.stores.specs.Pairs.{pair, same_pair}
+use Rattle.stores.specs.Pairs.{same_pair}
 use Rattle.stores.specs.Alike.{pair_decides}
 use Rattle.labelling.specs.declared.board.Board.{Board}
 use Rattle.labelling.specs.Boards.{member}

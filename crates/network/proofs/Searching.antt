@@ -1,12 +1,10 @@
 -- The turn of a search along the nodes.
-use Rattle.std.proofs.Common.{◌≡◌, ℕ, zero, suc, ◌+◌, ◌-◌, ◌*◌, ◌<◌, ◌≤◌, Bool, true, false, cond, ◌≢◌, ◌⊎◌, List, [], ◌∷◌, ◌++◌, map, length, get_or, take, drop, set, replicate, Option, sym, refl, ap, ◌∙◌, subst, inl, inr, ⊎_elim, add-one, arith, length-append, length-set}
-use lib.Seq.{take-append-le}
-use Rattle.std.proofs.lemmas.List.{get_or-set_same, get_or-set_other, length-map, take_all}
+use Rattle.std.proofs.Common.{◌≡◌, ℕ, zero, suc, ◌+◌, ◌<◌, List, [], ◌∷◌, map, length, get_or, take, set, sym, refl, ap, ◌∙◌, subst, ⊎_elim, add-one, arith}
+use Rattle.std.proofs.lemmas.List.{get_or-set_same, get_or-set_other, length-map}
 use Rattle.std.proofs.lemmas.Bool.{cases_eq}
-use Rattle.fields.specs.declared.orders.NetworkOrder.{NetworkOrder}
-use Rattle.labels.specs.Labels.{keys, key_of}
+use Rattle.labels.specs.Labels.{keys}
 use Rattle.parts.specs.Meaning.{Meaning, meaning}
-use Rattle.parts.specs.Marks.{marked, marked_from, hit, labels_of, over_start}
+use Rattle.parts.specs.Marks.{hit}
 use Rattle.parts.specs.Asked.{Questioned}
 use Rattle.stores.specs.declared.pairs.Pair.{Pair}
 use Rattle.labelling.specs.declared.board.Board.{Board}

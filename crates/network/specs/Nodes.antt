@@ -1,5 +1,5 @@
 -- The nodes in a row: the first combines the first two fields of the order, each later one the node before it and the next field.
-use Rattle.std.specs.Prelude.{◌≡◌, ℕ, zero, suc, ◌+◌, ◌-◌, ◌<◌, ◌≤◌, Bool, true, false, cond, ◌&&◌, List, [], ◌∷◌, map, length, get_or, ◌==◌, slice_index, slice_index_or}
+use Rattle.std.specs.Prelude.{◌≡◌, ℕ, zero, suc, ◌+◌, ◌-◌, ◌<◌, ◌≤◌, Bool, true, false, cond, ◌&&◌, List, map, length, get_or, ◌==◌, slice_index, slice_index_or}
 use Rattle.filters.specs.Counting.{different}
 use Rattle.labels.specs.Labels.{Standing, standing, occurrences}
 use Rattle.parts.specs.Meaning.{Meaning}

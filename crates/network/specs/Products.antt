@@ -1,5 +1,5 @@
 -- Pairs of labels found: what a node asks its store.
-use Rattle.std.specs.Prelude.{◌≡◌, ℕ, ◌*◌, ◌≤◌, Bool, true, false, cond, ◌&&◌, List, [], ◌∷◌, ◌++◌, length, count_by, Option, nat_eq}
+use Rattle.std.specs.Prelude.{◌≡◌, ℕ, ◌*◌, Bool, ◌&&◌, List, [], ◌∷◌, ◌++◌, length, count_by, Option, nat_eq}
 use Rattle.parts.specs.Meaning.{Meaning}
 use Rattle.parts.specs.Marks.{mark_found, labels_of}
 use Rattle.parts.specs.Asked.{Questioned}

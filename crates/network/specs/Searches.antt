@@ -1,19 +1,17 @@
 -- A search along the nodes, from the labels found in the fields.
-use Rattle.std.specs.Prelude.{◌≡◌, ℕ, zero, suc, ◌+◌, ◌-◌, ◌*◌, ◌<◌, Bool, ◌&&◌, List, [], ◌∷◌, map, length, Option, slice_index, slice_index_or}
-use Rattle.std.specs.List.{AllByRecursion as All}
+use Rattle.std.specs.Prelude.{◌≡◌, ℕ, zero, suc, ◌+◌, ◌-◌, ◌*◌, ◌<◌, Bool, ◌&&◌, List, length, Option, slice_index, slice_index_or}
 use Rattle.labels.specs.Labels.{keys}
 use Rattle.parts.specs.Meaning.{Meaning, meaning}
 use Rattle.parts.specs.Marks.{labels_of}
 use Rattle.parts.specs.Asked.{Questioned}
 use Rattle.filters.specs.Counting.{different}
 use Rattle.stores.specs.declared.pairs.Pair.{Pair}
-use Rattle.stores.specs.Pairs.{same_pair}
 use Rattle.labelling.specs.declared.board.Board.{Board}
 use Rattle.labelling.specs.declared.found.Found.{Found}
 use Rattle.labelling.specs.Boards.{member}
 use Rattle.labelling.specs.Lists.{found_in}
 use Rattle.network.specs.Products.{product, both_found, EachPair}
-use Rattle.network.specs.Nodes.{Filed, First, key_at, alike}
+use Rattle.network.specs.Nodes.{Filed, alike}
 
 -- the labels found in the field at position j of an order, from 0
 abbrev pub found_at : List ℕ → List Found → ℕ → List ℕ

@@ -1,5 +1,5 @@
 -- The text of an answer. A byte is its ASCII code.
-use Rattle.std.specs.Prelude.{ℕ, List, [], ◌∷◌, ◌++◌, map, take, Some, None, Ok, Err, decimal, Option, Result}
+use Rattle.std.specs.Prelude.{ℕ, List, [], ◌∷◌, ◌++◌, take, Some, None, Ok, Err, decimal, Option, Result}
 use Rattle.fields.specs.declared.faults.Fault.{Fault}
 use Rattle.fields.specs.Faults.{number, detail}
 use Rattle.filters.specs.declared.calls.Best.{Best}

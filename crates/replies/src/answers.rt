@@ -4,10 +4,14 @@ ghost use Rattle.replies.specs.Answers.{decimals, best_numbers, answer_text};
 
 use fields::faults::Fault;
 use filters::calls::{Answer, Best};
-use std::fmt;
+use std::alloc::AllocError;
 
 // Writes the line of an answer behind what there is. A search fills a list, of which as many identifiers are written as it listed.
-pub fn write_answer(out: &mut String, answer: Result<Answer, Fault>, listed: &[u16]) -> fmt::Result
+pub fn write_answer(
+    out: &mut String,
+    answer: Result<Answer, Fault>,
+    listed: &[u16],
+) -> Result<(), AllocError>
     ensures { OnOk result (string_bytes out.new ≡ string_bytes out.old ++ answer_text answer listed.now) }
 {
     match answer {
@@ -16,7 +20,7 @@ pub fn write_answer(out: &mut String, answer: Result<Answer, Fault>, listed: &[u
     }
 }
 
-fn write_accepted(out: &mut String, answer: Answer, listed: &[u16]) -> fmt::Result
+fn write_accepted(out: &mut String, answer: Answer, listed: &[u16]) -> Result<(), AllocError>
     ensures { OnOk result (string_bytes out.new ≡ string_bytes out.old ++ answer_text (Ok answer) listed.now) }
 {
     match answer {
@@ -27,7 +31,7 @@ fn write_accepted(out: &mut String, answer: Answer, listed: &[u16]) -> fmt::Resu
     }
 }
 
-fn write_refusal(out: &mut String, fault: Fault) -> fmt::Result
+fn write_refusal(out: &mut String, fault: Fault) -> Result<(), AllocError>
     ensures { OnOk result (string_bytes out.new ≡ string_bytes out.old ++ answer_text (Err fault) []) }
 {
     let number = fault.number();
@@ -35,7 +39,12 @@ fn write_refusal(out: &mut String, fault: Fault) -> fmt::Result
     write!(out, "! {number} {detail}")
 }
 
-fn write_found(out: &mut String, best: Option<Best>, pairs: u32, listed: &[u16]) -> fmt::Result
+fn write_found(
+    out: &mut String,
+    best: Option<Best>,
+    pairs: u32,
+    listed: &[u16],
+) -> Result<(), AllocError>
     ensures { OnOk result (string_bytes out.new ≡ string_bytes out.old ++ 61 ∷ decimals (best_numbers best ++ pairs ∷ listed.now)) }
 {
     write_best(out, best)?;
@@ -43,7 +52,7 @@ fn write_found(out: &mut String, best: Option<Best>, pairs: u32, listed: &[u16])
     write_listed(out, listed)
 }
 
-fn write_best(out: &mut String, best: Option<Best>) -> fmt::Result
+fn write_best(out: &mut String, best: Option<Best>) -> Result<(), AllocError>
     ensures { OnOk result (string_bytes out.new ≡ string_bytes out.old ++ 61 ∷ decimals (best_numbers best)) }
 {
     match best {
@@ -56,7 +65,7 @@ fn write_best(out: &mut String, best: Option<Best>) -> fmt::Result
     }
 }
 
-fn write_listed(out: &mut String, listed: &[u16]) -> fmt::Result
+fn write_listed(out: &mut String, listed: &[u16]) -> Result<(), AllocError>
     ensures { OnOk result (string_bytes out.new ≡ string_bytes out.old ++ decimals listed.now) }
 {
     for identifier in listed {

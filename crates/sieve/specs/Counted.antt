@@ -1,5 +1,5 @@
 -- What the counters count, and how they change.
-use Rattle.std.specs.Prelude.{◌≡◌, ℕ, ◌+◌, ◌-◌, min, Bool, cond, List, [], ◌∷◌, length, Some, None, count_by, Option, nat_lt, slice_index, slice_set}
+use Rattle.std.specs.Prelude.{ℕ, ◌+◌, ◌-◌, min, Bool, cond, List, [], ◌∷◌, Some, None, count_by, Option, nat_lt, slice_index, slice_set}
 use Rattle.parts.specs.Marks.{hit}
 use Rattle.stores.specs.declared.pairs.Pair.{Pair}
 use Rattle.sieve.specs.declared.counters.Change.{Change}

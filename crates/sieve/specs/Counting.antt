@@ -1,6 +1,6 @@
 -- The counters that a pair touches, each once, and what the counters count.
-use Rattle.std.specs.Prelude.{◌≡◌, ℕ, zero, suc, ◌+◌, ◌-◌, ◌*◌, ◌/◌, ◌%◌, ◌<◌, ◌≤◌, min, Bool, true, false, cond, ◌&&◌, ◌||◌, ◌⊎◌, List, [], ◌∷◌, ◌++◌, map, length, get_or, set, replicate, Some, None, count_by, Option, ◌==◌, ◌≢◌, nat_eq, nat_lt, slice_index, slice_index_or, slice_set, refl}
-use Rattle.std.proofs.Common.{sym, ap, subst, ◌∙◌, inl, inr, ⊎_elim, mod-lt, arith, length-set}
+use Rattle.std.specs.Prelude.{◌≡◌, ℕ, zero, suc, ◌+◌, ◌-◌, ◌*◌, ◌/◌, ◌<◌, ◌≤◌, min, Bool, true, false, cond, ◌&&◌, ◌||◌, List, [], ◌∷◌, ◌++◌, map, length, get_or, set, replicate, Some, None, Option, ◌==◌, ◌≢◌, nat_eq, nat_lt, slice_index, slice_index_or, slice_set, refl}
+use Rattle.std.proofs.Common.{sym, ap, subst, ◌∙◌, ⊎_elim, mod-lt, arith, length-set}
 use Rattle.std.proofs.lemmas.List.{get_or-set_same, get_or-set_other, get_or-replicate, get_or_past, length-replicate}
 use Rattle.std.proofs.lemmas.List.Sums.{sum_by-set, count_by-le-length, get_or-le-sum_by}
 use Rattle.std.proofs.lemmas.Bool.{cases_Bool, cases_eq, cases_lt, both_ways, false≢true, eq-eqb, ne_eqb, eqb-true, lt-ltb, or_cases, or_left, or_right, or_from, and_from}
@@ -13,7 +13,7 @@ use Rattle.stores.specs.Finding.{split, find_some, full_within}
 use Rattle.sieve.specs.declared.counters.Change.{Change}
 use Rattle.sieve.specs.declared.counters.Change.TheVariants.{Up, Down}
 use Rattle.sieve.specs.Touched.{counter, multipliers, spread, has, slots_from, slots, listed, touched, Apart, every}
-use Rattle.sieve.specs.Counted.{count_of, passing, above, changed, change_at, change_all}
+use Rattle.sieve.specs.Counted.{count_of, passing, above, changed, change_all}
 
 has_itself : (x : ℕ) (seen : List ℕ) → has x (seen ++ x ∷ []) ≡ true
 has_itself x [] = ap (λ (b : Bool). b || false) (eq-eqb x x refl)

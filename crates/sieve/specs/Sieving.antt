@@ -1,14 +1,14 @@
 -- A sieve's calls keep what it holds.
-use Rattle.std.specs.Prelude.{◌≡◌, ℕ, ◌+◌, ◌%◌, ◌^◌, ◌<◌, ◌≤◌, Bool, true, false, cond, List, [], ◌∷◌, ◌++◌, length, replicate, Some, None, Ok, Err, Option, slice_index_or, refl}
-use Rattle.std.proofs.Common.{sym, ap, subst, ◌∙◌, append-nil, arith}
+use Rattle.std.specs.Prelude.{◌≡◌, ℕ, ◌+◌, ◌%◌, ◌^◌, ◌<◌, Bool, true, false, cond, List, [], ◌∷◌, ◌++◌, length, replicate, Some, None, Ok, Option, slice_index_or, refl}
+use Rattle.std.proofs.Common.{sym, ap, ◌∙◌, append-nil, arith}
 use Rattle.std.proofs.lemmas.List.{length-replicate}
 use Rattle.fields.specs.declared.faults.Fault.{Fault}
 use Rattle.fields.specs.Faults.{answer}
-use Rattle.parts.specs.Meaning.{Meaning, meaning, Proper, find, nothing, put, asked_once}
+use Rattle.parts.specs.Meaning.{Meaning, meaning, Proper, nothing, put, asked_once}
 use Rattle.stores.specs.declared.pairs.Pair.{Pair}
 use Rattle.sieve.specs.declared.counters.Change.TheVariants.{Up, Down}
 use Rattle.sieve.specs.Touched.{slots}
-use Rattle.sieve.specs.Counted.{count_of, passing, above, questions, change_all}
+use Rattle.sieve.specs.Counted.{above, questions, change_all}
 use Rattle.sieve.specs.Sieved.{Sieved}
 use Rattle.sieve.specs.Counting.{counts_set, counts_clear, length_changed, nothing_counted}
 

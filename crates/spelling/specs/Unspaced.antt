@@ -1,5 +1,5 @@
 -- No word has a space.
-use Rattle.std.specs.Prelude.{◌≡◌, ℕ, ◌^◌, ◌<◌, List, [], ◌∷◌, ◌++◌, decimal, ◌≢◌}
+use Rattle.std.specs.Prelude.{ℕ, ◌^◌, ◌<◌, List, [], ◌∷◌, decimal, ◌≢◌}
 use Rattle.std.proofs.Common.{arith}
 use Rattle.fields.specs.declared.prefixes.PrefixRow.{PrefixRow}
 use Rattle.fields.specs.declared.ranges.RangeRow.{RangeRow}

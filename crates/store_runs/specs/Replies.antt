@@ -1,5 +1,5 @@
 -- What a store answers to a list of calls, by its meaning alone.
-use Rattle.std.specs.Prelude.{ℕ, List, [], ◌∷◌, fold}
+use Rattle.std.specs.Prelude.{List, [], ◌∷◌, fold}
 use Rattle.fields.specs.Faults.{answer, unless}
 use Rattle.parts.specs.Meaning.{Meaning, nothing, find, label_fault, set_fault, after_set, cleared, after_clear, asked_once}
 use Rattle.stores.specs.declared.pairs.Pair.{Pair}

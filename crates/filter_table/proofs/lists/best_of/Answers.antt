@@ -14,11 +14,11 @@ turn fs h i d b l formed inv e =
     ap (λ (t : Bool). cond t (Some (get_or fs i d)) (best (drop (i + 1) fs) h)) (e (every_get_or lawful fs i d formed l))
     ∙ sym (at_drop_more (λ (l : List FilterRow). best l h) fs i d l) ∙ inv
 
-pub returns-then-may-win : goal.returns-then-may-win
-returns-then-may-win c = turn c.args.rows.now c.args.header.now c.loop-row.row-index _ true c.loop-row-test.true c.requires c.loop-row.invariant c.if-may-win.ensures
+pub returns-then-may_win : goal.returns-then-may_win
+returns-then-may_win c = turn c.args.rows.now c.args.header.now c.loop-row.row-index _ true c.loop-row-test.true c.requires c.loop-row.invariant c.if-may_win.ensures
 
 pub loop-row-preserved : goal.loop-row-preserved
-loop-row-preserved c = turn c.args.rows.now c.args.header.now c.loop-row.row-index _ false c.loop-row-test.true c.requires c.loop-row.invariant c.if-may-win.ensures
+loop-row-preserved c = turn c.args.rows.now c.args.header.now c.loop-row.row-index _ false c.loop-row-test.true c.requires c.loop-row.invariant c.if-may_win.ensures
 
 pub returns : goal.returns
 returns c = sym (at_drop_all (λ (l : List FilterRow). best l c.args.header.now) c.args.rows.now c.loop-row.row-index c.loop-row-test.false) ∙ c.loop-row.invariant

@@ -4,7 +4,7 @@ use Rattle.filters.specs.declared.rows.FilterRow.{FilterRow}
 use Rattle.filters.specs.Scans.{joins, written}
 use Rattle.filter_table.proofs.Listing.{keep_full, keep_all, turn_in, turn_out}
 use Rattle.filter_table.proofs.lists.list_of.Goals as goal
-use Rattle.filter_table.proofs.lists.list_of.Goals.{then-may-join, else-may-join}
+use Rattle.filter_table.proofs.lists.list_of.Goals.{then-may_join, else-may_join}
 
 pub loop-row-init : goal.loop-row-init
 loop-row-init c =
@@ -22,12 +22,12 @@ returns-then-count-most c =
 
 pub loop-row-preserved : goal.loop-row-preserved
 loop-row-preserved c =
-    elim c.if-may-join.branch [
-      | then-may-join w ↦
-          let t = turn_in c.args.rows.now c.args.header.now c.args.most c.loop-row.row-index _ c.args.list.now c.loop-row.list c.loop-row.count c.loop-row-test.true c.requires.formed c.loop-row.invariant.0 c.loop-row.invariant.1 w.if-may-join.ensures c.if-count-most.false c.requires.room in
+    elim c.if-may_join.branch [
+      | then-may_join w ↦
+          let t = turn_in c.args.rows.now c.args.header.now c.args.most c.loop-row.row-index _ c.args.list.now c.loop-row.list c.loop-row.count c.loop-row-test.true c.requires.formed c.loop-row.invariant.0 c.loop-row.invariant.1 w.if-may_join.ensures c.if-count-most.false c.requires.room in
           (w.count-is ∙ t.0, w.list-is ∙ t.1)
-      | else-may-join w ↦
-          let t = turn_out c.args.rows.now c.args.header.now c.args.most c.loop-row.row-index _ c.args.list.now c.loop-row.list c.loop-row.count c.loop-row-test.true c.requires.formed c.loop-row.invariant.0 c.loop-row.invariant.1 w.if-may-join.ensures in
+      | else-may_join w ↦
+          let t = turn_out c.args.rows.now c.args.header.now c.args.most c.loop-row.row-index _ c.args.list.now c.loop-row.list c.loop-row.count c.loop-row-test.true c.requires.formed c.loop-row.invariant.0 c.loop-row.invariant.1 w.if-may_join.ensures in
           (w.count-is ∙ t.0, w.list-is ∙ t.1)
     ]
 

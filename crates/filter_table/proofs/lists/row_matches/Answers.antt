@@ -6,10 +6,10 @@ use Rattle.filters.specs.Formed.{plain}
 use Rattle.filters.proofs.Checks.{formed_ok, formed_err}
 use Rattle.filter_table.proofs.lists.row_matches.Goals as goal
 
-pub returns-in-default : goal.returns-in-default
-returns-in-default c =
+pub returns-in_default : goal.returns-in_default
+returns-in_default c =
     let f = c.args.row.now in
-    let e = formed_err plain (row_fault f) c.in-default.field-0 f c.in-default.ensures in
+    let e = formed_err plain (row_fault f) c.in_default.field-0 f c.in_default.ensures in
     sym (ap (λ (o : Option Fault). accepted o && matches f c.args.header.now) e)
 
 pub returns : goal.returns

@@ -15,11 +15,11 @@ turn gs f i d b l inv e =
 pub loop-other-init : goal.loop-other-init
 loop-other-init c = refl
 
-pub returns-then-same-values : goal.returns-then-same-values
-returns-then-same-values c = turn c.args.rows.now c.args.row.now c.loop-other.other-index _ true c.loop-other-test.true c.loop-other.invariant c.if-same-values.ensures
+pub returns-then-same_values : goal.returns-then-same_values
+returns-then-same_values c = turn c.args.rows.now c.args.row.now c.loop-other.other-index _ true c.loop-other-test.true c.loop-other.invariant c.if-same_values.ensures
 
 pub loop-other-preserved : goal.loop-other-preserved
-loop-other-preserved c = turn c.args.rows.now c.args.row.now c.loop-other.other-index _ false c.loop-other-test.true c.loop-other.invariant c.if-same-values.ensures
+loop-other-preserved c = turn c.args.rows.now c.args.row.now c.loop-other.other-index _ false c.loop-other-test.true c.loop-other.invariant c.if-same_values.ensures
 
 pub returns : goal.returns
 returns c = sym (at_drop_all (λ (l : List FilterRow). twin l c.args.row.now) c.args.rows.now c.loop-other.other-index c.loop-other-test.false) ∙ c.loop-other.invariant

@@ -1,10 +1,8 @@
-use Rattle.std.proofs.Common.{◌≡◌, ℕ, suc, ◌+◌, ◌<◌, ◌≤◌, Bool, true, false, cond, List, [], ◌∷◌, ◌++◌, length, get_or, set, Some, None, Option, sym, refl, ap, ◌∙◌, subst, arith, rules}
+use Rattle.std.proofs.Common.{◌≡◌, Bool, true, false, ◌∷◌, ◌++◌, refl, subst, arith}
 use Rattle.std.proofs.lemmas.Bool.{both_ways}
 use Rattle.std.proofs.lemmas.Result.{IfOk-from_err}
-use Rattle.labels.specs.declared.table.Used.{Used}
-use Rattle.labels.specs.Labels.{Standing, standing, Labelled, keys, Keyed, Came}
-use Rattle.parts.specs.Meaning.{Meaning, meaning}
-use Rattle.labelling.specs.Boards.{Stands}
+use Rattle.labels.specs.Labels.{standing, keys, Keyed, Came}
+use Rattle.parts.specs.Meaning.{meaning}
 use Rattle.labelling.proofs.Tells.{untold, told_came, no_fault, never_err}
 use Rattle.labelling.proofs.told.enter.Goals as goal
 
@@ -29,8 +27,8 @@ returns-then-not-acquired g c =
       asked = λ l h. h;
     }
 
-pub returns-in-err-set : goal.returns-in-err-set
-returns-in-err-set g c =
+pub returns-in_err-set : goal.returns-in_err-set
+returns-in_err-set g c =
     let eq = g.V.Key.eq in
     let slots = c.args.table.now.slots in
     let slots' = c.acquire.new.self.slots in
@@ -39,10 +37,10 @@ returns-in-err-set g c =
     let new : a.new ≡ true = grind arith in
     let came : Came eq (keys slots) (keys slots') c.args.key a.label = subst (λ (b : Bool). Keyed eq (keys slots) (keys slots') c.args.key a.label b) new k.1 in
     record {
-      entered = λ before after n s few ok. absurd (never_err tt (no_fault eq g.V.Key.labels (keys slots) (keys slots') c.args.key a.label k.0 ok came) (c.in-err-set.ensures.result (meaning (keys slots) n) s.shown));
-      untold = IfOk-from_err c.from-residual.result _ c.from-residual.ensures.0;
-      kept = λ _. c.in-err-set.ensures.kept refl;
-      asked = λ l h. c.in-err-set.ensures.asked l h;
+      entered = λ before after n s few ok. absurd (never_err tt (no_fault eq g.V.Key.labels (keys slots) (keys slots') c.args.key a.label k.0 ok came) (c.in_err-set.ensures.result (meaning (keys slots) n) s.shown));
+      untold = IfOk-from_err c.from_residual.result _ c.from_residual.ensures.0;
+      kept = λ _. c.in_err-set.ensures.kept refl;
+      asked = λ l h. c.in_err-set.ensures.asked l h;
     }
 
 pub returns : goal.returns
@@ -60,9 +58,9 @@ returns g c =
         c.in-Some.ensures.fresh (before ++ after) s.labelled,
         told_came eq g.P.Told.shows g.V.Key.labels slots slots' c.set.new.self (before ++ standing c.args.key a.label ∷ after) n c.args.key a.label k.0 ok came
             (c.in-Some.ensures.labelled before after s.labelled)
-            (c.in-ok-set.ensures.held (meaning (keys slots) n) s.shown),
+            (c.in_ok-set.ensures.held (meaning (keys slots) n) s.shown),
       );
       untold = λ e. absurd (both_ways a.new e new);
       kept = λ e. absurd (both_ways false refl e);
-      asked = λ l h. c.in-ok-set.ensures.asked l h;
+      asked = λ l h. c.in_ok-set.ensures.asked l h;
     }

@@ -7,7 +7,7 @@ pub returns : goal.returns
 returns g c =
     let slots = c.args.node.now.table.slots in
     record {
-      crossed = λ fs n s ll lr. c.ask-pairs.ensures.crossed (meaning (keys slots) n) s.shown ll lr;
+      crossed = λ fs n s ll lr. c.ask_pairs.ensures.crossed (meaning (keys slots) n) s.shown ll lr;
       kept = refl;
-      few = c.ask-pairs.ensures.few;
+      few = c.ask_pairs.ensures.few;
     }

@@ -1,14 +1,12 @@
-use Rattle.std.proofs.Common.{◌≡◌, ℕ, ◌+◌, ◌-◌, ◌*◌, ◌<◌, ◌≤◌, Bool, true, false, List, [], ◌∷◌, ◌++◌, map, length, get_or, take, set, replicate, Some, None, Ok, Err, Option, Result, sym, refl, ap, ◌∙◌, subst, mul-le-mul, arith, length-set, rules}
+use Rattle.std.proofs.Common.{◌≡◌, ℕ, ◌<◌, Bool, false, List, map, length, get_or, take, replicate, Ok, Option, Result, sym, refl, ap, ◌∙◌, subst, mul-le-mul, rules}
 use Rattle.fields.specs.declared.faults.Fault.{Fault}
-use Rattle.fields.specs.Faults.{answer, unless}
 use Rattle.stores.specs.declared.pairs.Pair.{Pair}
-use Rattle.stores.specs.Pairs.{pair, same_pair}
+use Rattle.stores.specs.Pairs.{same_pair}
 use Rattle.std.proofs.lemmas.List.{take_all}
-use Rattle.parts.specs.Meaning.{Meaning, find}
-use Rattle.parts.specs.Marks.{marked, hit, over_start}
+use Rattle.parts.specs.Meaning.{find}
+use Rattle.parts.specs.Marks.{marked, hit}
 use Rattle.parts.specs.Asked.{Questioned, after_questions}
-use Rattle.labelling.specs.Boards.{Labels}
-use Rattle.network.specs.Products.{Crossed, row, product, both_found, marks_after}
+use Rattle.network.specs.Products.{row, product, both_found, marks_after}
 use Rattle.network.proofs.Asking.{product_more, after_places, marks_append, questioned_append}
 use Rattle.network.proofs.Marking.{crossed}
 use Rattle.labelling.proofs.Listed.{take_over}
@@ -31,9 +29,9 @@ loop-a-preserved g c =
     let none : List Bool = replicate 96 false in
     λ m s ll lr.
     let inv = c.loop-a.invariant m s ll lr in
-    let r = c.in-ok-ask-row.ensures (after_questions m old) inv.0.shown (ll i) lr in
+    let r = c.in_ok-ask_row.ensures (after_questions m old) inv.0.shown (ll i) lr in
     let e = product_more left right i l in (
-      subst (Questioned shows agrees c.args.store.now c.ask-row.new.store m) (sym e) (questioned_append shows agrees c.args.store.now c.loop-a.store c.ask-row.new.store m old (row a right) inv.0 r.0),
+      subst (Questioned shows agrees c.args.store.now c.ask_row.new.store m) (sym e) (questioned_append shows agrees c.args.store.now c.loop-a.store c.ask_row.new.store m old (row a right) inv.0 r.0),
       r.1 ∙ ap (λ (xs : List (Option Pair)). marks_after (find same_pair xs) c.loop-a.marks (row a right)) (after_places m old)
           ∙ ap (λ (ms : List Bool). marks_after (find same_pair m.places) ms (row a right)) inv.1
           ∙ sym (marks_append (find same_pair m.places) none old (row a right))
@@ -45,7 +43,7 @@ returns g c =
     let left = c.args.left.now in
     let right = c.args.right.now in
     let all : take c.loop-a.a-index left ≡ left = take_all c.loop-a.a-index left (search rules) in
-    let w = c.in-ok-count.ensures in
+    let w = c.in_ok-count.ensures in
     record {
       crossed = λ m s ll lr.
           let inv = c.loop-a.invariant m s ll lr in

@@ -1,4 +1,4 @@
-use Rattle.std.proofs.Common.{◌≡◌, ℕ, ◌≤◌, false, length, take, replicate}
+use Rattle.std.proofs.Common.{◌≡◌, false, take, replicate}
 use Rattle.parts.specs.Meaning.{Meaning, find}
 use Rattle.parts.specs.Asked.{Questioned}
 use Rattle.stores.specs.declared.pairs.Pair.{Pair}

@@ -1,4 +1,4 @@
-use Rattle.std.proofs.Common.{◌≡◌, Ok, sym, ap, ◌∙◌}
+use Rattle.std.proofs.Common.{Ok, sym, ap, ◌∙◌}
 use Rattle.filters.specs.declared.calls.Answer.{Answer}
 use Rattle.replies.specs.Answers.{answer_text}
 use Rattle.replies.proofs.Texts.{as_text, one, two}

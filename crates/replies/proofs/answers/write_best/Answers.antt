@@ -1,4 +1,4 @@
-use Rattle.std.proofs.Common.{◌≡◌, ◌∷◌, Option, sym, ap, ◌∙◌}
+use Rattle.std.proofs.Common.{◌∷◌, Option, sym, ap, ◌∙◌}
 use Rattle.filters.specs.declared.calls.Best.{Best}
 use Rattle.replies.specs.Answers.{decimals, best_numbers}
 use Rattle.replies.proofs.Texts.{as_text, two, zeros}

@@ -5,6 +5,6 @@ use Rattle.replies.proofs.answers.write_found.Goals as goal
 
 pub returns : goal.returns
 returns c =
-    found c.write-listed.result _ (string_bytes c.write.new.self) (string_bytes c.write-best.new.out) (string_bytes c.args.out.now)
+    found c.write_listed.result _ (string_bytes c.write.new.self) (string_bytes c.write_best.new.out) (string_bytes c.args.out.now)
     (best_numbers c.args.best) c.args.listed.now c.args.pairs
-    c.in-ok-write-best.ensures c.in-ok-write.ensures.bytes c.write-listed.ensures
+    c.in_ok-write_best.ensures c.in_ok-write.ensures.bytes c.write_listed.ensures

@@ -1,4 +1,4 @@
-use Rattle.std.proofs.Common.{◌≡◌, ℕ, ◌+◌, ◌<◌, ◌≤◌, List, [], ◌∷◌, length, get_or, drop, None, Option, sym, refl, ap, ◌∙◌, arith}
+use Rattle.std.proofs.Common.{◌≡◌, ℕ, ◌+◌, ◌<◌, ◌≤◌, List, length, get_or, drop, None, sym, refl, ap, ◌∙◌, arith}
 use Rattle.std.proofs.lemmas.List.{at_drop_more, at_drop_all}
 use Rattle.sieve.specs.Counted.{change_at, change_all}
 use Rattle.sieve.proofs.counters.count_pair.Goals as goal
@@ -14,7 +14,7 @@ loop-slot-preserved c =
     let cs = c.loop-slot.counters in
     let w : i < length os = omega (arith, c.told-slots, c.loop-slot-test.true) in
     let e : change_all by (drop i os) cs ≡ change_all by (drop (i + 1) os) (change_at by (get_or os i None) cs) = at_drop_more (λ xs. change_all by xs cs) os i None w in
-    ap (λ (xs : List ℕ). change_all by (drop (i + 1) os) xs) c.count-at.ensures ∙ sym e ∙ c.loop-slot.invariant
+    ap (λ (xs : List ℕ). change_all by (drop (i + 1) os) xs) c.count_at.ensures ∙ sym e ∙ c.loop-slot.invariant
 
 pub returns : goal.returns
 returns c =

@@ -6,8 +6,8 @@ pub returns : goal.returns
 returns c =
     let p = c.args.pair in
     record {
-      slots = four_slots p c.counter-a.result c.counter-b.result c.counter-c.result c.counter-d.result c.unless-in.result c.unless-in-2.result c.unless-in-3.result
-          c.counter-a.ensures c.counter-b.ensures c.counter-c.ensures c.counter-d.ensures c.unless-in.ensures c.unless-in-2.ensures c.unless-in-3.ensures;
+      slots = four_slots p c.counter-a.result c.counter-b.result c.counter-c.result c.counter-d.result c.unless_in.result c.unless_in-2.result c.unless_in-3.result
+          c.counter-a.ensures c.counter-b.ensures c.counter-c.ensures c.counter-d.ensures c.unless_in.ensures c.unless_in-2.ensures c.unless_in-3.ensures;
       each = touched_each p;
       once = touched_once p;
       figures = (refl, refl);

@@ -1,4 +1,4 @@
-use Rattle.std.proofs.Common.{◌≡◌, ℕ, ◌+◌, ◌<◌, List, [], ◌∷◌, ◌++◌, length, get_or, take, sym, ap, ◌∙◌, subst, arith, rules}
+use Rattle.std.proofs.Common.{◌≡◌, ◌<◌, List, [], ◌∷◌, ◌++◌, length, take, sym, ap, ◌∙◌, subst, arith, rules}
 use Rattle.std.proofs.lemmas.List.{take_all}
 use Rattle.std.proofs.lemmas.List.Sums.{fold_more}
 use Rattle.parts.specs.Meaning.{Meaning, nothing}
@@ -7,7 +7,7 @@ use Rattle.stores.specs.Pairs.{pair}
 use Rattle.store_runs.specs.declared.calls.StoreCall.{StoreCall}
 use Rattle.store_runs.specs.declared.calls.StoreCall.TheVariants.{Set}
 use Rattle.store_runs.specs.declared.calls.Reply.{Reply}
-use Rattle.store_runs.specs.Replies.{reply, next, after, replies}
+use Rattle.store_runs.specs.Replies.{next, after, replies}
 use Rattle.store_runs.proofs.Running.{replies_more}
 use Rattle.store_runs.proofs.runs.run.Goals as goal
 
@@ -20,7 +20,7 @@ loop-call-preserved g c =
     let inv = c.loop-call.invariant in
     let told = c.perform-reply.ensures in (
       subst (λ (n : Meaning Pair). g.S.Told.shows c.perform-reply.new.store n) (sym (fold_more next nothing calls i (Set 0 (pair 0 0)) l)) (told.held m inv.0),
-      c.in-ok-push.ensures.items ∙ ap (λ (rs : List Reply). rs ++ c.perform-reply.result ∷ []) inv.1
+      c.in_ok-push.ensures.items ∙ ap (λ (rs : List Reply). rs ++ c.perform-reply.result ∷ []) inv.1
           ∙ ap (λ (r : Reply). replies (take i calls) ++ r ∷ []) (told.answered m inv.0) ∙ sym (replies_more calls i (Set 0 (pair 0 0)) l),
     )
 

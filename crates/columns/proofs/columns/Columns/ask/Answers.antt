@@ -1,4 +1,3 @@
-use Rattle.std.proofs.Common.{◌≡◌, ℕ, List, [], ◌∷◌, ◌++◌, map, length, get_or, sym, refl, ap, ◌∙◌, subst, rules}
 use Rattle.fields.specs.declared.prefixes.Prefix.{Prefix}
 use Rattle.fields.specs.declared.ranges.PortRange.{PortRange}
 use Rattle.fields.specs.declared.protocols.Protocol.{Protocol}
@@ -11,36 +10,36 @@ use Rattle.fields.proofs.Values.{prefix_decides, range_decides, protocol_decides
 use Rattle.filters.specs.declared.filter.Filter.{Filter}
 use Rattle.labels.specs.Labels.{keys}
 use Rattle.parts.specs.Meaning.{meaning}
-use Rattle.columns.specs.Fields.{Placed, prefix_eq, range_eq, protocol_eq, flags_eq}
+use Rattle.columns.specs.Fields.{prefix_eq, range_eq, protocol_eq, flags_eq}
 use Rattle.columns.proofs.OneField.{answered}
 use Rattle.columns.proofs.columns.Columns.ask.Goals as goal
 
-pub returns-in-err-a : goal.returns-in-err-a
-returns-in-err-a g c = λ ps ns s. absurd (c.in-err-a.ensures (meaning (keys c.args.self.now.source_labels.slots) (ns 0)) s.source.shown)
+pub returns-in_err-a : goal.returns-in_err-a
+returns-in_err-a g c = λ ps ns s. absurd (c.in_err-a.ensures (meaning (keys c.args.self.now.source_labels.slots) (ns 0)) s.source.shown)
 
-pub returns-in-err-b : goal.returns-in-err-b
-returns-in-err-b g c = λ ps ns s. absurd (c.in-err-b.ensures (meaning (keys c.args.self.now.destination_labels.slots) (ns 1)) s.destination.shown)
+pub returns-in_err-b : goal.returns-in_err-b
+returns-in_err-b g c = λ ps ns s. absurd (c.in_err-b.ensures (meaning (keys c.args.self.now.destination_labels.slots) (ns 1)) s.destination.shown)
 
-pub returns-in-err-c : goal.returns-in-err-c
-returns-in-err-c g c = λ ps ns s. absurd (c.in-err-c.ensures (meaning (keys c.args.self.now.source_port_labels.slots) (ns 2)) s.source_port.shown)
+pub returns-in_err-c : goal.returns-in_err-c
+returns-in_err-c g c = λ ps ns s. absurd (c.in_err-c.ensures (meaning (keys c.args.self.now.source_port_labels.slots) (ns 2)) s.source_port.shown)
 
-pub returns-in-err-d : goal.returns-in-err-d
-returns-in-err-d g c = λ ps ns s. absurd (c.in-err-d.ensures (meaning (keys c.args.self.now.destination_port_labels.slots) (ns 3)) s.destination_port.shown)
+pub returns-in_err-d : goal.returns-in_err-d
+returns-in_err-d g c = λ ps ns s. absurd (c.in_err-d.ensures (meaning (keys c.args.self.now.destination_port_labels.slots) (ns 3)) s.destination_port.shown)
 
-pub returns-in-err-e : goal.returns-in-err-e
-returns-in-err-e g c = λ ps ns s. absurd (c.in-err-e.ensures (meaning (keys c.args.self.now.protocol_labels.slots) (ns 4)) s.protocol.shown)
+pub returns-in_err-e : goal.returns-in_err-e
+returns-in_err-e g c = λ ps ns s. absurd (c.in_err-e.ensures (meaning (keys c.args.self.now.protocol_labels.slots) (ns 4)) s.protocol.shown)
 
-pub returns-in-err-f : goal.returns-in-err-f
-returns-in-err-f g c = λ ps ns s. absurd (c.in-err-f.ensures (meaning (keys c.args.self.now.flags_labels.slots) (ns 5)) s.flags.shown)
+pub returns-in_err-f : goal.returns-in_err-f
+returns-in_err-f g c = λ ps ns s. absurd (c.in_err-f.ensures (meaning (keys c.args.self.now.flags_labels.slots) (ns 5)) s.flags.shown)
 
 pub returns : goal.returns
 returns g c = λ ps ns s.
-    let ea = c.in-ok-a.ensures (meaning (keys c.args.self.now.source_labels.slots) (ns 0)) s.source.shown in
-    let eb = c.in-ok-b.ensures (meaning (keys c.args.self.now.destination_labels.slots) (ns 1)) s.destination.shown in
-    let ec = c.in-ok-c.ensures (meaning (keys c.args.self.now.source_port_labels.slots) (ns 2)) s.source_port.shown in
-    let ed = c.in-ok-d.ensures (meaning (keys c.args.self.now.destination_port_labels.slots) (ns 3)) s.destination_port.shown in
-    let ee = c.in-ok-e.ensures (meaning (keys c.args.self.now.protocol_labels.slots) (ns 4)) s.protocol.shown in
-    let ef = c.in-ok-f.ensures (meaning (keys c.args.self.now.flags_labels.slots) (ns 5)) s.flags.shown in (
+    let ea = c.in_ok-a.ensures (meaning (keys c.args.self.now.source_labels.slots) (ns 0)) s.source.shown in
+    let eb = c.in_ok-b.ensures (meaning (keys c.args.self.now.destination_labels.slots) (ns 1)) s.destination.shown in
+    let ec = c.in_ok-c.ensures (meaning (keys c.args.self.now.source_port_labels.slots) (ns 2)) s.source_port.shown in
+    let ed = c.in_ok-d.ensures (meaning (keys c.args.self.now.destination_port_labels.slots) (ns 3)) s.destination_port.shown in
+    let ee = c.in_ok-e.ensures (meaning (keys c.args.self.now.protocol_labels.slots) (ns 4)) s.protocol.shown in
+    let ef = c.in_ok-f.ensures (meaning (keys c.args.self.now.flags_labels.slots) (ns 5)) s.flags.shown in (
       record {
         source = record { labelled = s.source.labelled; shown = ea.1 };
         destination = record { labelled = s.destination.labelled; shown = eb.1 };

@@ -1,4 +1,4 @@
-use Rattle.std.proofs.Common.{◌≡◌, ℕ, arith}
+use Rattle.std.proofs.Common.{◌≡◌, arith}
 use Rattle.filters.specs.declared.filter.Filter.{Filter}
 use Rattle.columns.specs.Fields.{prefix_eq, range_eq, protocol_eq, flags_eq}
 use Rattle.columns.proofs.OneField.{counted}

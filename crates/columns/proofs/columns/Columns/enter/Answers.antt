@@ -1,48 +1,48 @@
-use Rattle.std.proofs.Common.{◌≡◌, ℕ, ◌+◌, ◌<◌, ◌≤◌, List, [], ◌∷◌, ◌++◌, map, length, get_or, sym, refl, ap, ◌∙◌, subst, arith, rules}
+use Rattle.std.proofs.Common.{ℕ, List, [], ◌∷◌, map, refl, ◌∙◌}
 use Rattle.filters.specs.declared.filter.Filter.{Filter}
-use Rattle.columns.specs.Fields.{Placed, placed, in_field, unused, prefix_eq, range_eq, protocol_eq, flags_eq}
+use Rattle.columns.specs.Fields.{in_field, prefix_eq, range_eq, protocol_eq, flags_eq}
 use Rattle.columns.proofs.OneField.{split, few_too, joined, said_of_all, told_if, six, labels_nil, labels_cons}
 use Rattle.columns.proofs.columns.Columns.enter.Goals as goal
 
-pub returns-in-err-a : goal.returns-in-err-a
-returns-in-err-a g c = λ before after ns few s. absurd (c.in-err-a.ensures.entered (map (in_field (λ (x : Filter). x.source) 0) before) (map (in_field (λ (x : Filter). x.source) 0) after) (ns 0) (split (λ (x : Filter). x.source) 0 before after s.source) (few_too (λ (x : Filter). x.source) 0 before after few) refl)
+pub returns-in_err-a : goal.returns-in_err-a
+returns-in_err-a g c = λ before after ns few s. absurd (c.in_err-a.ensures.entered (map (in_field (λ (x : Filter). x.source) 0) before) (map (in_field (λ (x : Filter). x.source) 0) after) (ns 0) (split (λ (x : Filter). x.source) 0 before after s.source) (few_too (λ (x : Filter). x.source) 0 before after few) refl)
 
-pub returns-in-err-b : goal.returns-in-err-b
-returns-in-err-b g c = λ before after ns few s. absurd (c.in-err-b.ensures.entered (map (in_field (λ (x : Filter). x.destination) 1) before) (map (in_field (λ (x : Filter). x.destination) 1) after) (ns 1) (split (λ (x : Filter). x.destination) 1 before after s.destination) (few_too (λ (x : Filter). x.destination) 1 before after few) refl)
+pub returns-in_err-b : goal.returns-in_err-b
+returns-in_err-b g c = λ before after ns few s. absurd (c.in_err-b.ensures.entered (map (in_field (λ (x : Filter). x.destination) 1) before) (map (in_field (λ (x : Filter). x.destination) 1) after) (ns 1) (split (λ (x : Filter). x.destination) 1 before after s.destination) (few_too (λ (x : Filter). x.destination) 1 before after few) refl)
 
-pub returns-in-err-c : goal.returns-in-err-c
-returns-in-err-c g c = λ before after ns few s. absurd (c.in-err-c.ensures.entered (map (in_field (λ (x : Filter). x.source_port) 2) before) (map (in_field (λ (x : Filter). x.source_port) 2) after) (ns 2) (split (λ (x : Filter). x.source_port) 2 before after s.source_port) (few_too (λ (x : Filter). x.source_port) 2 before after few) refl)
+pub returns-in_err-c : goal.returns-in_err-c
+returns-in_err-c g c = λ before after ns few s. absurd (c.in_err-c.ensures.entered (map (in_field (λ (x : Filter). x.source_port) 2) before) (map (in_field (λ (x : Filter). x.source_port) 2) after) (ns 2) (split (λ (x : Filter). x.source_port) 2 before after s.source_port) (few_too (λ (x : Filter). x.source_port) 2 before after few) refl)
 
-pub returns-in-err-d : goal.returns-in-err-d
-returns-in-err-d g c = λ before after ns few s. absurd (c.in-err-d.ensures.entered (map (in_field (λ (x : Filter). x.destination_port) 3) before) (map (in_field (λ (x : Filter). x.destination_port) 3) after) (ns 3) (split (λ (x : Filter). x.destination_port) 3 before after s.destination_port) (few_too (λ (x : Filter). x.destination_port) 3 before after few) refl)
+pub returns-in_err-d : goal.returns-in_err-d
+returns-in_err-d g c = λ before after ns few s. absurd (c.in_err-d.ensures.entered (map (in_field (λ (x : Filter). x.destination_port) 3) before) (map (in_field (λ (x : Filter). x.destination_port) 3) after) (ns 3) (split (λ (x : Filter). x.destination_port) 3 before after s.destination_port) (few_too (λ (x : Filter). x.destination_port) 3 before after few) refl)
 
-pub returns-in-err-e : goal.returns-in-err-e
-returns-in-err-e g c = λ before after ns few s. absurd (c.in-err-e.ensures.entered (map (in_field (λ (x : Filter). x.protocol) 4) before) (map (in_field (λ (x : Filter). x.protocol) 4) after) (ns 4) (split (λ (x : Filter). x.protocol) 4 before after s.protocol) (few_too (λ (x : Filter). x.protocol) 4 before after few) refl)
+pub returns-in_err-e : goal.returns-in_err-e
+returns-in_err-e g c = λ before after ns few s. absurd (c.in_err-e.ensures.entered (map (in_field (λ (x : Filter). x.protocol) 4) before) (map (in_field (λ (x : Filter). x.protocol) 4) after) (ns 4) (split (λ (x : Filter). x.protocol) 4 before after s.protocol) (few_too (λ (x : Filter). x.protocol) 4 before after few) refl)
 
-pub returns-in-err-f : goal.returns-in-err-f
-returns-in-err-f g c = λ before after ns few s. absurd (c.in-err-f.ensures.entered (map (in_field (λ (x : Filter). x.flags) 5) before) (map (in_field (λ (x : Filter). x.flags) 5) after) (ns 5) (split (λ (x : Filter). x.flags) 5 before after s.flags) (few_too (λ (x : Filter). x.flags) 5 before after few) refl)
+pub returns-in_err-f : goal.returns-in_err-f
+returns-in_err-f g c = λ before after ns few s. absurd (c.in_err-f.ensures.entered (map (in_field (λ (x : Filter). x.flags) 5) before) (map (in_field (λ (x : Filter). x.flags) 5) after) (ns 5) (split (λ (x : Filter). x.flags) 5 before after s.flags) (few_too (λ (x : Filter). x.flags) 5 before after few) refl)
 
 pub returns : goal.returns
 returns g c = λ before after ns few s.
     let filter = c.args.filter in
-    let qa = c.in-ok-a.ensures in
+    let qa = c.in_ok-a.ensures in
     let ea = qa.entered (map (in_field (λ (x : Filter). x.source) 0) before) (map (in_field (λ (x : Filter). x.source) 0) after) (ns 0) (split (λ (x : Filter). x.source) 0 before after s.source) (few_too (λ (x : Filter). x.source) 0 before after few) refl in
-    let na = c.in-ok-a.a in
-    let qb = c.in-ok-b.ensures in
+    let na = c.in_ok-a.a in
+    let qb = c.in_ok-b.ensures in
     let eb = qb.entered (map (in_field (λ (x : Filter). x.destination) 1) before) (map (in_field (λ (x : Filter). x.destination) 1) after) (ns 1) (split (λ (x : Filter). x.destination) 1 before after s.destination) (few_too (λ (x : Filter). x.destination) 1 before after few) refl in
-    let nb = c.in-ok-b.b in
-    let qc = c.in-ok-c.ensures in
+    let nb = c.in_ok-b.b in
+    let qc = c.in_ok-c.ensures in
     let ec = qc.entered (map (in_field (λ (x : Filter). x.source_port) 2) before) (map (in_field (λ (x : Filter). x.source_port) 2) after) (ns 2) (split (λ (x : Filter). x.source_port) 2 before after s.source_port) (few_too (λ (x : Filter). x.source_port) 2 before after few) refl in
-    let nc = c.in-ok-c.c in
-    let qd = c.in-ok-d.ensures in
+    let nc = c.in_ok-c.c in
+    let qd = c.in_ok-d.ensures in
     let ed = qd.entered (map (in_field (λ (x : Filter). x.destination_port) 3) before) (map (in_field (λ (x : Filter). x.destination_port) 3) after) (ns 3) (split (λ (x : Filter). x.destination_port) 3 before after s.destination_port) (few_too (λ (x : Filter). x.destination_port) 3 before after few) refl in
-    let nd = c.in-ok-d.d in
-    let qe = c.in-ok-e.ensures in
+    let nd = c.in_ok-d.d in
+    let qe = c.in_ok-e.ensures in
     let ee = qe.entered (map (in_field (λ (x : Filter). x.protocol) 4) before) (map (in_field (λ (x : Filter). x.protocol) 4) after) (ns 4) (split (λ (x : Filter). x.protocol) 4 before after s.protocol) (few_too (λ (x : Filter). x.protocol) 4 before after few) refl in
-    let ne = c.in-ok-e.e in
-    let qf = c.in-ok-f.ensures in
+    let ne = c.in_ok-e.e in
+    let qf = c.in_ok-f.ensures in
     let ef = qf.entered (map (in_field (λ (x : Filter). x.flags) 5) before) (map (in_field (λ (x : Filter). x.flags) 5) after) (ns 5) (split (λ (x : Filter). x.flags) 5 before after s.flags) (few_too (λ (x : Filter). x.flags) 5 before after few) refl in
-    let nf = c.in-ok-f.f in
+    let nf = c.in_ok-f.f in
     let labels : List ℕ = na.label ∷ nb.label ∷ nc.label ∷ nd.label ∷ ne.label ∷ nf.label ∷ [] in (
       record {
         source = joined (λ (x : Filter). x.source) 0 before after filter labels ea.2;

@@ -18,5 +18,5 @@ returns-in-Some c =
     let t = c.args.self.now in
     let f = c.args.row.now in
     let none : is_some (position f.identifier (held t)) ≡ false = cc in
-    sym (refused_twin (held t) f c.in-Some.fault (formed_ok plain (row_fault f) c.in-default.field-0 f c.in-default.ensures).0 (position_absent f.identifier (held t) none)
+    sym (refused_twin (held t) f c.in-Some.fault (formed_ok plain (row_fault f) c.in_default.field-0 f c.in_default.ensures).0 (position_absent f.identifier (held t) none)
     (sym (c.in-Some.ensures ∙ part_held t (λ (gs : List FilterRow). twin gs f))))

@@ -8,16 +8,16 @@ use Rattle.filters.proofs.Checks.{removal_accepted}
 use Rattle.filter_table.proofs.Held.{position_stands, after_removal}
 use Rattle.filter_table.proofs.table.FilterTable.remove.Goals as goal
 
-pub invariant-of-self : goal.invariant-of-self
-invariant-of-self c =
-    let e = after_removal c.args.self.now c.args.identifier c.in-Some.position c.remove-at.new.rows c.in-Some.ensures c.remove-at.ensures.rows in
-    (e.size, (e.few, (e.formed, tt)))
+pub invariant_of-self : goal.invariant_of-self
+invariant_of-self c =
+    let e = after_removal c.args.self.now c.args.identifier c.in-Some.position c.remove_at.new.rows c.in-Some.ensures c.remove_at.ensures.rows in
+    record { size = e.size; few = e.few; formed = e.formed }
 
 pub returns : goal.returns
 returns c =
     let t = c.args.self.now in
     let id = c.args.identifier in
-    let e = after_removal t id c.in-Some.position c.remove-at.new.rows c.in-Some.ensures c.remove-at.ensures.rows in
+    let e = after_removal t id c.in-Some.position c.remove_at.new.rows c.in-Some.ensures c.remove_at.ensures.rows in
     let q = position_stands id (held t) c.in-Some.position c.in-Some.ensures in
     let ok = removal_accepted (held t) id c.if-identifier-eq0.false q.0 in
     record {

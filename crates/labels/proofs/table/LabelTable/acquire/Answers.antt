@@ -1,7 +1,6 @@
-use Rattle.std.proofs.Common.{◌≡◌, ℕ, suc, ◌+◌, ◌*◌, ◌<◌, ◌≤◌, Bool, true, false, cond, List, [], ◌∷◌, ◌++◌, length, get_or, set, Some, None, Option, sym, refl, ap, ◌∙◌, subst, arith, rules}
+use Rattle.std.proofs.Common.{◌≡◌, ℕ, ◌+◌, ◌<◌, false, ◌∷◌, ◌++◌, length, get_or, set, Some, None, sym, refl, ap, ◌∙◌, subst, arith, rules}
 use Rattle.std.proofs.lemmas.List.{get_or_default}
 use Rattle.std.proofs.lemmas.Bool.{ne_eqb, eq-eqb, true≢false}
-use Rattle.labels.specs.declared.table.Used.{Used}
 use Rattle.labels.specs.Labels.{standing, here, occurrences, Labelled}
 use Rattle.labels.proofs.Tables.{raised, absent, present, count_bound, no_room, entered, came, kept_keys, gone_all}
 use Rattle.labels.proofs.table.LabelTable.acquire.Goals as goal
@@ -9,7 +8,7 @@ use Rattle.labels.proofs.table.LabelTable.acquire.Goals as goal
 pub returns-then-used : goal.returns-then-used
 returns-then-used g c =
     let slots = c.args.self.now.slots in
-    let i = c.place-of-i.result in
+    let i = c.place_of-i.result in
     let l : i < length slots = search rules in
     let at : get_or slots i None ≡ Some c.in-Some.used = get_or_default slots i None c.index-self-i.result l ∙ c.in-Some.is in
     record {
@@ -25,11 +24,11 @@ returns-then-i-lt96 g c =
     let eq = g.K.Key.eq in
     let law = g.met.K.Key.decides in
     let slots = c.args.self.now.slots in
-    let i = c.place-of-i.result in
+    let i = c.place_of-i.result in
     let u = c.in-Some.used in
     let l : i < length slots = search rules in
     let at : get_or slots i None ≡ Some u = get_or_default slots i None c.index-self-i.result l ∙ c.in-Some.is in
-    let hit = c.place-of-i.ensures.found l in
+    let hit = c.place_of-i.ensures.found l in
     let same : u.key ≡ c.args.key = sym ((law c.args.key u.key).0 (ap (here eq c.args.key) (sym at) ∙ hit)) in
     record {
       room = λ fs h few. refl;
@@ -45,13 +44,13 @@ returns-then-j-lt96 g c =
     let law = g.met.K.Key.decides in
     let slots = c.args.self.now.slots in
     let len : length slots ≡ 96 = search rules in
-    let gone : (i : ℕ) → i < length slots → here eq c.args.key (get_or slots i None) ≡ false = λ i l. c.place-of-i.ensures.before i (omega arith) in
-    let l : c.free-place-j.result < length slots = omega arith in
+    let gone : (i : ℕ) → i < length slots → here eq c.args.key (get_or slots i None) ≡ false = λ i l. c.place_of-i.ensures.before i (omega arith) in
+    let l : c.free_place-j.result < length slots = omega arith in
     record {
       room = λ fs h few. refl;
-      labelled = λ before after h. entered eq law slots before after c.free-place-j.result c.args.key h l (c.free-place-j.ensures.found l) gone;
+      labelled = λ before after h. entered eq law slots before after c.free_place-j.result c.args.key h l (c.free_place-j.ensures.found l) gone;
       fresh = λ fs h. sym (eq-eqb (occurrences eq c.args.key fs) 0 (absent eq law slots fs c.args.key h gone));
-      keyed = (omega arith, came eq slots c.free-place-j.result c.args.key 1 (c.free-place-j.ensures.found l) (gone_all eq law slots c.args.key gone));
+      keyed = (omega arith, came eq slots c.free_place-j.result c.args.key 1 (c.free_place-j.ensures.found l) (gone_all eq law slots c.args.key gone));
       kept = λ e. absurd (true≢false e);
     }
 
@@ -62,7 +61,7 @@ returns g c =
     let slots = c.args.self.now.slots in
     let len : length slots ≡ 96 = search rules in
     record {
-      room = λ fs h few. absurd (omega (arith, no_room eq law slots fs h (λ i l. c.free-place-j.ensures.before i (omega arith))));
+      room = λ fs h few. absurd (omega (arith, no_room eq law slots fs h (λ i l. c.free_place-j.ensures.before i (omega arith))));
       labelled = λ before after h. tt;
       fresh = λ fs h. tt;
       keyed = tt;

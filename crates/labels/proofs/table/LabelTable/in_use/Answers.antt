@@ -8,8 +8,8 @@ pub returns : goal.returns
 returns g c =
     let slots = c.args.self.now.slots in
     record {
-      value = c.how-many-used.ensures;
+      value = c.how_many_used.ensures;
       different = as_many g.K.Key.eq g.met.K.Key.decides slots;
-      each = λ fs h. c.how-many-used.ensures ∙ in_use_each g.K.Key.eq g.met.K.Key.decides slots fs h;
-      few = omega (arith, c.how-many-used.ensures, count_by-le-length used slots, c.args.self.now.size);
+      each = λ fs h. c.how_many_used.ensures ∙ in_use_each g.K.Key.eq g.met.K.Key.decides slots fs h;
+      few = omega (arith, c.how_many_used.ensures, count_by-le-length used slots, c.args.self.now.size);
     }

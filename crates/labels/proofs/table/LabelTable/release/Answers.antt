@@ -1,4 +1,4 @@
-use Rattle.std.proofs.Common.{◌≡◌, ℕ, suc, ◌+◌, ◌-◌, ◌*◌, ◌<◌, ◌≤◌, Bool, true, false, cond, eqb, List, [], ◌∷◌, ◌++◌, length, get_or, set, Some, None, Option, sym, refl, ap, ◌∙◌, subst, arith, rules}
+use Rattle.std.proofs.Common.{◌≡◌, ◌-◌, ◌<◌, Bool, true, false, eqb, ◌∷◌, ◌++◌, length, get_or, set, Some, None, Option, sym, refl, ap, ◌∙◌, subst, arith, rules}
 use Rattle.std.proofs.lemmas.List.{get_or_default, length-set, get_or-set_same, map-set, get_or_past}
 use Rattle.std.proofs.lemmas.Bool.{ne_eqb, eq-eqb, both_ways, true≢false}
 use Rattle.labels.specs.declared.table.Used.{Used}
@@ -23,14 +23,14 @@ returns-then-i-ge96 g c =
       kept = λ _. refl;
     }
 
-pub returns-in-default : goal.returns-in-default
-returns-in-default g c =
+pub returns-in_default : goal.returns-in_default
+returns-in_default g c =
     let eq = g.K.Key.eq in
     let law = g.met.K.Key.decides in
     let slots = c.args.self.now.slots in
     let i = c.args.label in
     let l : i < length slots = search rules in
-    let at : get_or slots i None ≡ None = get_or_default slots i None c.index-self-i.result l ∙ c.in-default.is in
+    let at : get_or slots i None ≡ None = get_or_default slots i None c.index-self-i.result l ∙ c.in_default.is in
     record {
       labelled = λ before after key h. absurd (both_ways (here eq key (get_or slots i None)) (ap (here eq key) at) (own eq law slots before after i key h));
       keyed = keys_at slots i ∙ ap key_of at;

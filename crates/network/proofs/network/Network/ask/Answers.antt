@@ -1,16 +1,12 @@
-use Rattle.std.proofs.Common.{◌≡◌, ℕ, ◌+◌, ◌-◌, ◌*◌, ◌<◌, ◌≤◌, Bool, true, false, List, [], ◌∷◌, ◌++◌, map, length, get_or, take, set, replicate, Some, None, Ok, Err, Option, Result, sym, refl, ap, ◌∙◌, subst, arith, length-set, rules}
-use Rattle.fields.specs.declared.faults.Fault.{Fault}
-use Rattle.fields.specs.Faults.{answer, unless}
+use Rattle.std.proofs.Common.{◌≡◌, ◌+◌, ◌-◌, ◌<◌, map, length, get_or, take, sym, refl, ap, ◌∙◌, subst, arith, rules}
 use Rattle.stores.specs.declared.pairs.Pair.{Pair}
-use Rattle.stores.specs.Pairs.{pair, same_pair}
+use Rattle.stores.specs.Pairs.{same_pair}
 use native.Mathlib.Nat.{sub-zero}
 use Rattle.std.proofs.lemmas.List.{length-map, get_or-set_other, get_or_default}
 use Rattle.labels.specs.Labels.{key_of}
 use Rattle.labelling.specs.declared.board.Board.{Board}
-use Rattle.labelling.specs.declared.found.Found.{Found}
 use Rattle.labelling.specs.Boards.{Stands, Labels}
-use Rattle.network.specs.Products.{Crossed}
-use Rattle.network.specs.Nodes.{Filed, at_node, Nodes}
+use Rattle.network.specs.Nodes.{at_node}
 use Rattle.labelling.specs.Lists.{found_in}
 use Rattle.network.specs.Searches.{found_at, places_of, reached, pairs}
 use Rattle.network.proofs.Entering.{next_is}
@@ -21,11 +17,11 @@ use Rattle.network.proofs.network.Network.ask.Goals as goal
 pub loop-k-init : goal.loop-k-init
 loop-k-init g c =
     let fields = c.args.fields.now in
-    let start = c.field-index-start.result in
+    let start = c.field_index-start.result in
     let d₀ = c.index-fields-start.result in
     let f = get_or fields start d₀ in
     let here : take f.count f.labels ≡ found_in fields start = labels_at fields start d₀ (search rules) in
-    let at : start ≡ get_or c.args.self.now.order.fields 0 0 - 1 = c.field-index-start.ensures.value (omega arith) (omega arith) in
+    let at : start ≡ get_or c.args.self.now.order.fields 0 0 - 1 = c.field_index-start.ensures.value (omega arith) (omega arith) in
     (f.few, f.size, search rules, λ j d h. refl, refl, λ fs ns d s lf. (λ j l. absurd (omega arith), here ∙ ap (found_in fields) at, refl, lf (get_or c.args.self.now.order.fields 0 0 - 1)))
 
 pub loop-k-preserved : goal.loop-k-preserved
@@ -38,14 +34,14 @@ loop-k-preserved g c =
     let fields = c.args.fields.now in
     let found = found_at order.fields fields in
     let ln : k < length nodes = search rules in
-    let next = c.field-index-next.result in
+    let next = c.field_index-next.result in
     let other = get_or fields next c.index-fields-next.result in
     let o = get_or nodes k c.index-self-k.result in
-    let x = c.in-ok-crossing.crossing in
-    let at : next ≡ get_or order.fields (k + 1) 0 - 1 = next_is c.loop-k.self.order order k next inv.4 (c.field-index-next.ensures.value (omega arith) (omega arith)) in (
+    let x = c.in_ok-crossing.crossing in
+    let at : next ≡ get_or order.fields (k + 1) 0 - 1 = next_is c.loop-k.self.order order k next inv.4 (c.field_index-next.ensures.value (omega arith) (omega arith)) in (
       x.found.few,
       x.found.size,
-      omega (arith, c.in-ok-crossing.ensures.few),
+      omega (arith, c.in_ok-crossing.ensures.few),
       λ j d l. get_or-set_other nodes k j _ d (omega arith) ∙ inv.3 j d (omega arith),
       inv.4,
       λ fs ns d s lf.
@@ -54,15 +50,15 @@ loop-k-preserved g c =
           let r : take (other.count - 0) other.labels ≡ found (k + 1) = rw sub-zero (labels_at fields next c.index-fields-next.result (search rules) ∙ ap (found_in fields) at) in
           let same : o ≡ get_or old k d = get_or_default nodes k c.index-self-k.result d ln ∙ inv.3 k d (omega arith) in
           let here = s k d (omega arith) in
-          let y = c.in-ok-crossing.ensures.crossed (map (at_node k) fs) (get_or ns k 0)
+          let y = c.in_ok-crossing.ensures.crossed (map (at_node k) fs) (get_or ns k 0)
           (subst (λ (b : Board Pair g.row.S.Denot Pair). Stands same_pair g.S.Told.shows b.table.slots b.part (map (at_node k) fs) (get_or ns k 0)) (sym same) here)
           (subst Labels (sym l) i.3) (subst Labels (sym r) (lf (get_or order.fields (k + 1) 0 - 1))) in
-          turn g.S.Told.shows g.S.Told.agrees d old found ns nodes k o c.ask-node.new.node (take (c.loop-k.count - 0) c.loop-k.left) (take (other.count - 0) other.labels) _ x.asked c.loop-k.asked ln
-          (length-map (get_or old k d).table.slots key_of ∙ here.labelled.size) same l r c.in-ok-crossing.ensures.kept y i.0 i.2,
+          turn g.S.Told.shows g.S.Told.agrees d old found ns nodes k o c.ask_node.new.node (take (c.loop-k.count - 0) c.loop-k.left) (take (other.count - 0) other.labels) _ x.asked c.loop-k.asked ln
+          (length-map (get_or old k d).table.slots key_of ∙ here.labelled.size) same l r c.in_ok-crossing.ensures.kept y i.0 i.2,
     )
 
-pub returns-in-err-crossing : goal.returns-in-err-crossing
-returns-in-err-crossing g c =
+pub returns-in_err-crossing : goal.returns-in_err-crossing
+returns-in_err-crossing g c =
     let k = c.loop-k.k in
     let inv = c.loop-k.invariant in
     let nodes = c.loop-k.self.nodes in
@@ -71,10 +67,10 @@ returns-in-err-crossing g c =
     let fields = c.args.fields.now in
     let found = found_at order.fields fields in
     let ln : k < length nodes = search rules in
-    let next = c.field-index-next.result in
+    let next = c.field_index-next.result in
     let other = get_or fields next c.index-fields-next.result in
     let o = get_or nodes k c.index-self-k.result in
-    let at : next ≡ get_or order.fields (k + 1) 0 - 1 = next_is c.loop-k.self.order order k next inv.4 (c.field-index-next.ensures.value (omega arith) (omega arith)) in
+    let at : next ≡ get_or order.fields (k + 1) 0 - 1 = next_is c.loop-k.self.order order k next inv.4 (c.field_index-next.ensures.value (omega arith) (omega arith)) in
     record {
       asked = λ fs ns d s lf.
           let i = inv.5 fs ns d s lf in
@@ -82,7 +78,7 @@ returns-in-err-crossing g c =
           let r : take (other.count - 0) other.labels ≡ found (k + 1) = rw sub-zero (labels_at fields next c.index-fields-next.result (search rules) ∙ ap (found_in fields) at) in
           let same : o ≡ get_or old k d = get_or_default nodes k c.index-self-k.result d ln ∙ inv.3 k d (omega arith) in
           let here = s k d (omega arith) in
-          absurd (c.in-err-crossing.ensures.crossed (map (at_node k) fs) (get_or ns k 0)
+          absurd (c.in_err-crossing.ensures.crossed (map (at_node k) fs) (get_or ns k 0)
           (subst (λ (b : Board Pair g.row.S.Denot Pair). Stands same_pair g.S.Told.shows b.table.slots b.part (map (at_node k) fs) (get_or ns k 0)) (sym same) here)
           (subst Labels (sym l) i.3) (subst Labels (sym r) (lf (get_or order.fields (k + 1) 0 - 1))));
       laws = λ fs ns d s first. (one_label g.S.Told.shows d c.args.self.now.nodes fs ns 5 s first, λ found. by_rows g.S.Told.shows d c.args.self.now.nodes fs ns 5 s first found 5 (omega arith));

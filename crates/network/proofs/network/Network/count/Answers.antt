@@ -1,4 +1,4 @@
-use Rattle.std.proofs.Common.{◌≡◌, ℕ, ◌+◌, true, List, map, get_or, None, subst}
+use Rattle.std.proofs.Common.{◌≡◌, ℕ, ◌+◌, true, map, get_or, None, subst}
 use Rattle.labels.specs.Labels.{here, occurrences}
 use Rattle.labels.proofs.Tables.{all_turn}
 use Rattle.stores.specs.Pairs.{same_pair}

@@ -1,22 +1,14 @@
-use Rattle.std.proofs.Common.{◌≡◌, ℕ, ◌+◌, ◌-◌, ◌*◌, ◌<◌, ◌≤◌, Bool, true, false, List, [], ◌∷◌, ◌++◌, map, length, get_or, take, set, replicate, Some, None, Ok, Err, Option, Result, sym, refl, ap, ◌∙◌, subst, arith, length-set, rules}
-use Rattle.fields.specs.declared.faults.Fault.{Fault}
-use Rattle.fields.specs.Faults.{answer, unless}
-use Rattle.stores.specs.declared.pairs.Pair.{Pair}
-use Rattle.stores.specs.Pairs.{pair, same_pair}
-use Rattle.std.proofs.lemmas.List.{get_or_default, get_or-set_other, map-append}
-use Rattle.labels.specs.Labels.{Standing}
-use Rattle.parts.specs.Meaning.{Meaning}
-use Rattle.labelling.specs.declared.board.Board.{Board}
-use Rattle.labelling.specs.Boards.{Stands, Labels}
-use Rattle.network.specs.Nodes.{Filed, filed, key_at, at_node, Nodes, fresh, arranged, unused}
-use Rattle.network.proofs.Entering.{replicate_below, set_below, none_over, arranged_below, field_is, key_is, next_is, map_length, node_before, chained, bit_one, fresh_more, unused_split, untold_more, keys_kept, asks_more}
+use Rattle.std.proofs.Common.{◌≡◌, ◌+◌, ◌<◌, ◌++◌, map, length, get_or, set, refl, ap, ◌∙◌, arith, length-set, rules}
+use Rattle.std.proofs.lemmas.List.{get_or-set_other}
+use Rattle.network.specs.Nodes.{filed, at_node, fresh, arranged, unused}
+use Rattle.network.proofs.Entering.{replicate_below, set_below, none_over, field_is, key_is, next_is, map_length, node_before, chained, bit_one, fresh_more, unused_split, untold_more, keys_kept, asks_more}
 use Rattle.network.proofs.network.Network.enter.Goals as goal
 
 pub loop-k-init : goal.loop-k-init
 loop-k-init g c =
     let order = c.args.self.now.order in
     let fields = c.args.fields in
-    let start = c.field-index-start.result in (
+    let start = c.field_index-start.result in (
       search rules,
       refl,
       λ j d h. refl,
@@ -26,13 +18,13 @@ loop-k-init g c =
         λ j d l. absurd (omega arith),
         λ i. replicate_below 6 (get_or fields start 0) i (lf start),
         refl,
-        field_is order.fields fields 0 start (omega (arith, order.size)) (c.field-index-start.ensures.value (omega arith) (omega arith)),
+        field_is order.fields fields 0 start (omega (arith, order.size)) (c.field_index-start.ensures.value (omega arith) (omega arith)),
         λ j d l. absurd (omega arith),
       ),
     )
 
-pub returns-in-err-acquired : goal.returns-in-err-acquired
-returns-in-err-acquired g c =
+pub returns-in_err-acquired : goal.returns-in_err-acquired
+returns-in_err-acquired g c =
     let k = c.loop-k.k in
     let inv = c.loop-k.invariant in
     let nodes = c.loop-k.self.nodes in
@@ -42,10 +34,10 @@ returns-in-err-acquired g c =
     record {
       entered = λ before after ns s few lf.
           let old = inv.5 before after ns s few lf in
-          absurd (c.in-err-acquired.ensures.entered (map (at_node k) before) (map (at_node k) after) (get_or ns k 0)
+          absurd (c.in_err-acquired.ensures.entered (map (at_node k) before) (map (at_node k) after) (get_or ns k 0)
           (node_before g.S.Told.shows nodes c.args.self.now.nodes k c.index-self-k.result before after ns (omega arith) inv.2 s)
-          (map_length k before after few) (none_over (get_or labels k 0) (get_or fields c.field-index-next.result 0) (old.1 k) (lf c.field-index-next.result)));
-      asked = asks_more g.S.Told.agrees c.args.self.now.nodes nodes k c.enter.new.self c.index-self-k.result ln c.in-err-acquired.ensures.asked inv.3;
+          (map_length k before after few) (none_over (get_or labels k 0) (get_or fields c.field_index-next.result 0) (old.1 k) (lf c.field_index-next.result)));
+      asked = asks_more g.S.Told.agrees c.args.self.now.nodes nodes k c.enter.new.self c.index-self-k.result ln c.in_err-acquired.ensures.asked inv.3;
       order = inv.4;
     }
 
@@ -60,20 +52,20 @@ loop-k-preserved g c =
     let fields = c.args.fields in
     let F = arranged order.fields fields in
     let labels = c.loop-k.labels in
-    let next = c.field-index-next.result in
+    let next = c.field_index-next.result in
     let ln : k < length nodes = search rules in
-    let h = c.in-ok-acquired.acquired in
+    let h = c.in_ok-acquired.acquired in
     let b = c.enter.new.self in
     let d₀ = c.index-self-k.result in
-    let key = key_is order.fields fields labels k next (omega (arith, order.size)) (next_is c.loop-k.self.order order k next inv.4 (c.field-index-next.ensures.value (omega arith) (omega arith))) in (
+    let key = key_is order.fields fields labels k next (omega (arith, order.size)) (next_is c.loop-k.self.order order k next inv.4 (c.field_index-next.ensures.value (omega arith) (omega arith))) in (
       omega (arith, bit_one h.new),
       length-set labels (k + 1) h.label ∙ inv.1,
       λ j d l. get_or-set_other nodes k j _ d (omega arith) ∙ inv.2 j d (omega arith),
-      asks_more g.S.Told.agrees nodes₀ nodes k b d₀ ln c.in-ok-acquired.ensures.asked inv.3,
+      asks_more g.S.Told.agrees nodes₀ nodes k b d₀ ln c.in_ok-acquired.ensures.asked inv.3,
       inv.4,
       λ before after ns s few lf.
           let old = inv.5 before after ns s few lf in
-          let e = c.in-ok-acquired.ensures.entered (map (at_node k) before) (map (at_node k) after) (get_or ns k 0)
+          let e = c.in_ok-acquired.ensures.entered (map (at_node k) before) (map (at_node k) after) (get_or ns k 0)
           (node_before shows nodes nodes₀ k d₀ before after ns (omega arith) inv.2 s)
           (map_length k before after few) (none_over (get_or labels k 0) (get_or fields next 0) (old.1 k) (lf next)) in
           let came : h.new ≡ unused (before ++ after) (filed F labels) k = e.1 ∙ unused_split before after (filed F labels) k _ key in (
@@ -81,7 +73,7 @@ loop-k-preserved g c =
             set_below labels (k + 1) h.label (omega (arith, e.0)) old.1 (omega arith),
             fresh_more (before ++ after) F labels k h.label c.loop-k.new h.new old.2 came,
             get_or-set_other labels (k + 1) 0 h.label 0 (omega arith) ∙ old.3,
-            untold_more nodes₀ nodes k b (before ++ after) (filed F labels) (filed F (set labels (k + 1) h.label)) d₀ ln inv.2 (keys_kept F labels k h.label) (λ u. c.in-ok-acquired.ensures.untold (came ∙ u)) old.4,
+            untold_more nodes₀ nodes k b (before ++ after) (filed F labels) (filed F (set labels (k + 1) h.label)) d₀ ln inv.2 (keys_kept F labels k h.label) (λ u. c.in_ok-acquired.ensures.untold (came ∙ u)) old.4,
           ),
     )
 

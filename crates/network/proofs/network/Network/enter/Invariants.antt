@@ -1,4 +1,4 @@
-use Rattle.std.proofs.Common.{◌≡◌, ℕ, ◌<◌, ◌≤◌, List, [], ◌∷◌, ◌++◌, length, get_or}
+use Rattle.std.proofs.Common.{◌≡◌, ℕ, ◌<◌, ◌≤◌, List, ◌∷◌, ◌++◌, length, get_or}
 use Rattle.stores.specs.declared.pairs.Pair.{Pair}
 use Rattle.labelling.specs.declared.board.Board.{Board}
 use Rattle.labelling.specs.Boards.{Labels}

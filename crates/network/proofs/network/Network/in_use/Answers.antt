@@ -13,9 +13,9 @@ loop-k-preserved g c =
     let nodes = c.args.self.now.nodes in
     let x = c.index-self-k.result in
     let l : k < 5 = search rules in (
-      omega (arith, c.in-use-total.ensures.few),
+      omega (arith, c.in_use-total.ensures.few),
       λ fs ns s first.
-          rows_more fs k c.loop-k.total c.in-use-total.result (c.loop-k.invariant.1 fs ns s first) (c.in-use-total.ensures.each (map (at_node k) fs) (s k x l).labelled ∙ rows_at g.S.Told.shows x nodes fs ns 5 s first k l),
+          rows_more fs k c.loop-k.total c.in_use-total.result (c.loop-k.invariant.1 fs ns s first) (c.in_use-total.ensures.each (map (at_node k) fs) (s k x l).labelled ∙ rows_at g.S.Told.shows x nodes fs ns 5 s first k l),
     )
 
 pub returns : goal.returns

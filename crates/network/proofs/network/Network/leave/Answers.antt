@@ -1,8 +1,6 @@
-use Rattle.std.proofs.Common.{◌≡◌, ℕ, ◌+◌, ◌-◌, ◌*◌, ◌<◌, ◌≤◌, Bool, true, false, List, [], ◌∷◌, ◌++◌, map, length, get_or, take, set, replicate, Some, None, Ok, Err, Option, Result, sym, refl, ap, ◌∙◌, subst, arith, length-set, rules}
-use Rattle.fields.specs.declared.faults.Fault.{Fault}
-use Rattle.fields.specs.Faults.{answer, unless}
+use Rattle.std.proofs.Common.{◌≡◌, ℕ, ◌<◌, ◌≤◌, List, ◌∷◌, ◌++◌, map, length, get_or, sym, refl, ap, ◌∙◌, subst, arith, rules}
 use Rattle.stores.specs.declared.pairs.Pair.{Pair}
-use Rattle.stores.specs.Pairs.{pair, same_pair}
+use Rattle.stores.specs.Pairs.{same_pair}
 use Rattle.std.proofs.lemmas.List.{get_or-set_other}
 use Rattle.labels.specs.Labels.{Standing}
 use Rattle.parts.specs.Meaning.{Meaning}
@@ -25,8 +23,8 @@ here {S} shows nodes nodes₀ k d before after f ns l kept s =
 pub loop-k-init : goal.loop-k-init
 loop-k-init g c = (search rules, λ j d h. refl, λ j d l a. a, refl, λ before after fields ns s. (λ j d l. absurd (omega arith), refl, λ j d l. absurd (omega arith)))
 
-pub returns-in-err-last : goal.returns-in-err-last
-returns-in-err-last g c =
+pub returns-in_err-last : goal.returns-in_err-last
+returns-in_err-last g c =
     let k = c.loop-k.k in
     let inv = c.loop-k.invariant in
     let nodes = c.loop-k.self.nodes in
@@ -34,9 +32,9 @@ returns-in-err-last g c =
     let ln : k < length nodes = search rules in
     record {
       left = λ before after fields ns s.
-          absurd (c.in-err-last.ensures.left (map (at_node k) before) (map (at_node k) after) (key_at k (filed fields labels)) (get_or ns k 0)
+          absurd (c.in_err-last.ensures.left (map (at_node k) before) (map (at_node k) after) (key_at k (filed fields labels)) (get_or ns k 0)
           (here g.S.Told.shows nodes c.args.self.now.nodes k c.index-self-k.result before after (filed fields labels) ns (omega arith) inv.1 s));
-      asked = asks_more g.S.Told.agrees c.args.self.now.nodes nodes k c.leave.new.self c.index-self-k.result ln c.in-err-last.ensures.asked inv.2;
+      asked = asks_more g.S.Told.agrees c.args.self.now.nodes nodes k c.leave.new.self c.index-self-k.result ln c.in_err-last.ensures.asked inv.2;
       order = inv.3;
     }
 
@@ -49,22 +47,22 @@ loop-k-preserved g c =
     let shows = g.S.Told.shows in
     let labels = c.args.labels in
     let ln : k < length nodes = search rules in
-    let last = c.in-ok-last.last in
+    let last = c.in_ok-last.last in
     let b = c.leave.new.self in
     let d₀ = c.index-self-k.result in (
       omega (arith, bit_one last),
       λ j d l. get_or-set_other nodes k j _ d (omega arith) ∙ inv.1 j d (omega arith),
-      asks_more g.S.Told.agrees nodes₀ nodes k b d₀ ln c.in-ok-last.ensures.asked inv.2,
+      asks_more g.S.Told.agrees nodes₀ nodes k b d₀ ln c.in_ok-last.ensures.asked inv.2,
       inv.3,
       λ before after fields ns s.
           let f = filed fields labels in
           let old = inv.4 before after fields ns s in
-          let e = c.in-ok-last.ensures.left (map (at_node k) before) (map (at_node k) after) (key_at k f) (get_or ns k 0)
+          let e = c.in_ok-last.ensures.left (map (at_node k) before) (map (at_node k) after) (key_at k f) (get_or ns k 0)
           (here shows nodes nodes₀ k d₀ before after f ns (omega arith) inv.1 s) in
           let went : last ≡ unused (before ++ after) f k = e.0 ∙ unused_split before after f k (key_at k f) refl in (
             unchained shows nodes k b before after ns ln old.0 e.1,
             fresh_same (before ++ after) f k c.loop-k.freed last old.1 went,
-            untold_more nodes₀ nodes k b (before ++ after) f f d₀ ln inv.1 (λ j l. refl) (λ u. c.in-ok-last.ensures.untold (went ∙ u)) old.2,
+            untold_more nodes₀ nodes k b (before ++ after) f f d₀ ln inv.1 (λ j l. refl) (λ u. c.in_ok-last.ensures.untold (went ∙ u)) old.2,
           ),
     )
 

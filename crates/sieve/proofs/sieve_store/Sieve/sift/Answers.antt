@@ -1,12 +1,12 @@
-use Rattle.std.proofs.Common.{◌≡◌, ℕ, ◌+◌, ◌%◌, ◌^◌, Bool, true, false, List, [], ◌∷◌, ◌++◌, Some, None, Ok, Err, Option, sym, refl, ap, ◌∙◌, subst}
+use Rattle.std.proofs.Common.{◌≡◌, ◌+◌, ◌%◌, ◌^◌, true, false, List, [], ◌∷◌, None, Option, sym, refl, ap, ◌∙◌, subst}
 use Rattle.std.proofs.lemmas.Bool.{both_ways}
 use Rattle.fields.specs.declared.faults.Fault.{Fault}
-use Rattle.fields.specs.Faults.{answer, unless}
+use Rattle.fields.specs.Faults.{unless}
 use Rattle.parts.specs.Meaning.{Meaning, meaning, find, label_fault, asked_once}
 use Rattle.stores.specs.declared.pairs.Pair.{Pair}
 use Rattle.stores.specs.Pairs.{pair, same_pair}
 use Rattle.stores.proofs.Checked.{answer_ok, accepted_find, asked_more, not_refused}
-use Rattle.sieve.specs.Counted.{passing, above, questions}
+use Rattle.sieve.specs.Counted.{above}
 use Rattle.sieve.specs.Sieved.{Sieved}
 use Rattle.sieve.specs.Counting.{above_is, spared_absent}
 use Rattle.sieve.specs.Sieving.{answer_value, asked_below, not_asked, sieved_asked}
@@ -19,9 +19,9 @@ returns-then-not-branch g c =
     let s = c.args.self.now in
     let p = pair c.args.left c.args.right in
     let o = label_fault (c.args.left ∷ c.args.right ∷ []) in
-    let told = c.in-ok-passes.ensures.result in
-    let none : o ≡ None = answer_ok o (above s.counters p) c.in-ok-passes.field-0 (sym told) in
-    let shut : above s.counters p ≡ false = sym (answer_value o (above s.counters p) c.in-ok-passes.field-0 told) ∙ c.if-not-branch.true in
+    let told = c.in_ok-passes.ensures.result in
+    let none : o ≡ None = answer_ok o (above s.counters p) c.in_ok-passes.field-0 (sym told) in
+    let shut : above s.counters p ≡ false = sym (answer_value o (above s.counters p) c.in_ok-passes.field-0 told) ∙ c.if-not-branch.true in
     record {
       result = λ m h. accepted_find o none None (find same_pair m.places p) (spared_absent m.places p (sym (above_is s.counters m.places h.counters_size h.counts p) ∙ shut));
       held = λ m h. subst (λ (n : Meaning Pair). Sieved shows s.below s.counters ((s.asked + 1) % 2 ^ 32) n) (sym (ap (λ (x : Option Fault). unless x m (asked_once m)) none))
@@ -42,10 +42,10 @@ returns g c =
     let s = c.args.self.now in
     let p = pair c.args.left c.args.right in
     let o = label_fault (c.args.left ∷ c.args.right ∷ []) in
-    let told = c.in-ok-passes.ensures.result in
-    let none : o ≡ None = answer_ok o (above s.counters p) c.in-ok-passes.field-0 (sym told) in
-    let open_is : above s.counters p ≡ true = sym (answer_value o (above s.counters p) c.in-ok-passes.field-0 told) ∙ c.if-not-branch.false in
-    let f = c.in-ok-found.ensures in
+    let told = c.in_ok-passes.ensures.result in
+    let none : o ≡ None = answer_ok o (above s.counters p) c.in_ok-passes.field-0 (sym told) in
+    let open_is : above s.counters p ≡ true = sym (answer_value o (above s.counters p) c.in_ok-passes.field-0 told) ∙ c.if-not-branch.false in
+    let f = c.in_ok-found.ensures in
     let b = c.find.new.self in
     record {
       result = λ m h. f.result (meaning m.places h.asked_below) h.holds;
