@@ -1,9 +1,8 @@
 -- What a match writes are the labels of the satisfied values.
-use Rattle.std.proofs.Common.{◌≡◌, ℕ, zero, suc, ◌<◌, Bool, true, false, List, [], ◌∷◌, map, length, get_or, take, replicate, Some, None, Option, sym, refl, ap, ◌∙◌, subst}
-use Rattle.std.specs.List.{ContainsAt as Has}
+use Rattle.std.proofs.Common.{◌≡◌, Bool, true, List, map, get_or, replicate, Some, None, Option, sym, refl, ap, ◌∙◌, subst}
 use Rattle.std.proofs.lemmas.Bool.{false≢true}
 use Rattle.parts.specs.Meaning.{Meaning}
-use Rattle.parts.specs.Marks.{hit, labels_of, over_start}
+use Rattle.parts.specs.Marks.{hit, labels_of}
 use Rattle.parts.proofs.Marked.{marked_exactly, take_over}
 use Rattle.engines.proofs.Marking.{hit_at}
 use Rattle.engine_runs.specs.declared.calls.Call.{Call}

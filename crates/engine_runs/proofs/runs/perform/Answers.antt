@@ -1,11 +1,9 @@
-use Rattle.std.proofs.Common.{◌≡◌, ℕ, Bool, List, [], ◌∷◌, ◌++◌, length, replicate, Ok, Result, sym, ap, ◌∙◌, subst}
+use Rattle.std.proofs.Common.{◌≡◌, ℕ, Bool, List, length, Ok, Result, sym, ap, ◌∙◌, subst}
 use Rattle.std.proofs.lemmas.Result.{IfOk-at_ok}
 use Rattle.fields.specs.declared.faults.Fault.{Fault}
 use Rattle.parts.specs.Meaning.{Meaning}
 use Rattle.parts.specs.Marks.{labels_of}
 use Rattle.engine_runs.specs.declared.calls.Call.{Call}
-use Rattle.engine_runs.specs.declared.calls.Call.TheVariants as call
-use Rattle.engine_runs.specs.declared.calls.Answer.{Answer}
 use Rattle.engine_runs.specs.declared.calls.Answer.TheVariants as told
 use Rattle.engine_runs.specs.Runs.{Tests, tests, answers, after, asked_after}
 use Rattle.engine_runs.specs.Satisfied.{Exactly}

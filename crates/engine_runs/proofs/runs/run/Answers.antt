@@ -1,4 +1,4 @@
-use Rattle.std.proofs.Common.{◌≡◌, ℕ, ◌+◌, ◌<◌, List, [], ◌∷◌, ◌++◌, length, get_or, take, drop, vec_items, sym, refl, ap, ◌∙◌, subst, append_assoc, append-nil, arith, rules}
+use Rattle.std.proofs.Common.{◌≡◌, ◌+◌, ◌<◌, List, [], ◌∷◌, ◌++◌, length, take, drop, vec_items, sym, refl, ap, ◌∙◌, subst, append_assoc, append-nil}
 use Rattle.std.proofs.lemmas.List.{at_drop_more, at_drop_all}
 use Rattle.std.proofs.lemmas.Result.{IfOk-from_err}
 use Rattle.parts.specs.Meaning.{Meaning, nothing}
@@ -35,7 +35,7 @@ loop-call-preserved g c =
     let is = c.call-item.is in
     let more : run_answers k m (drop i calls) ≡ answers k m x ∷ run_answers k (after k m x) rest = at_drop_more (run_answers k m) calls i x w ∙ ap (λ (y : Call g.row.V.Denot). run_answers k m (y ∷ rest)) (sym is) in
     let shown = c.perform.ensures.held m inv.2 in
-    let pushed = c.in-ok-push.ensures.items in
+    let pushed = c.in_ok-push.ensures.items in
     let old = vec_items c.loop-call.answers in (
       after k m x,
       asked_after ns x,
@@ -50,8 +50,8 @@ loop-call-preserved g c =
       ap (λ (a : Meaning g.row.V.Denot). after k a x) inv.7 ∙ sym (run_more k nothing calls i x w is),
     )
 
-pub returns-in-err-push : goal.returns-in-err-push
-returns-in-err-push g c =
+pub returns-in_err-push : goal.returns-in_err-push
+returns-in_err-push g c =
     let k = kind g in
     let calls = c.args.calls.now in
     let i = c.loop-call.call-index in
@@ -59,9 +59,9 @@ returns-in-err-push g c =
     let x = c.call-item.result in
     let on : after k inv.0 x ≡ run_after k nothing (take (i + 1) calls) = ap (λ (a : Meaning g.row.V.Denot). after k a x) inv.7 ∙ sym (run_more k nothing calls i x c.loop-call-test.true c.call-item.is) in
     record {
-      answers = IfOk-from_err c.from-residual.result _ c.from-residual.ensures.0;
-      held = IfOk-from_err c.from-residual.result _ c.from-residual.ensures.0;
-      asked = IfOk-from_err c.from-residual.result _ c.from-residual.ensures.0;
+      answers = IfOk-from_err c.from_residual.result _ c.from_residual.ensures.0;
+      held = IfOk-from_err c.from_residual.result _ c.from_residual.ensures.0;
+      asked = IfOk-from_err c.from_residual.result _ c.from_residual.ensures.0;
       part = (i + 1, subst (g.E.Told.shows c.perform.new.engine) on (c.perform.ensures.held inv.0 inv.2));
     }
 

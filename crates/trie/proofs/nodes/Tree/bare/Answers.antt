@@ -6,5 +6,5 @@ use Rattle.trie.proofs.nodes.Tree.bare.Goals as goal
 
 pub returns : goal.returns
 returns c =
-    let d : length c.all-free-free.result ≡ 3072 = search rules in
-    record { sound = ∣ rooted (replicate 3073 blank) c.all-free-free.result (length-replicate 3073 blank) (get_or-replicate 3073 0 blank blank (omega arith)) d c.all-free-free.ensures ∣₁; rows = refl }
+    let d : length c.all_free-free.result ≡ 3072 = search rules in
+    record { sound = ∣ rooted (replicate 3073 blank) c.all_free-free.result (length-replicate 3073 blank) (get_or-replicate 3073 0 blank blank (omega arith)) d c.all_free-free.ensures ∣₁; rows = refl }

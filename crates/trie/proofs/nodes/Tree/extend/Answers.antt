@@ -1,4 +1,4 @@
-use Rattle.std.proofs.Common.{◌≡◌, ℕ, ◌-◌, ◌<◌, sym, ap, ◌∙◌, subst, arith}
+use Rattle.std.proofs.Common.{◌≡◌, ℕ, ◌<◌, sym, ap, ◌∙◌, subst, arith}
 use mathlib.Core.Logic.{∥∥₁_elim, ∥∥₁_map}
 use native.Mathlib.Bridge.{le_prop}
 use Rattle.trie.specs.declared.nodes.Tree.{Tree}
@@ -11,8 +11,8 @@ claim-node-requires c = (∥∥₁_elim c.requires.growing le_prop (λ g. room c
 pub wipe-requires : goal.wipe-requires
 wipe-requires c = ∥∥₁_elim c.requires.growing le_prop (λ g. subst (λ (x : ℕ). x < 3073) (sym c.claim-node.ensures.node) (node_within c.args.self.now c.args.row c.args.parent c.args.depth g c.requires.within))
 
-pub bit-after-requires : goal.bit-after-requires
-bit-after-requires c = ∥∥₁_elim c.requires.growing le_prop (λ g. let w = c.requires.within in omega (arith, g.lawful.short))
+pub bit_after-requires : goal.bit_after-requires
+bit_after-requires c = ∥∥₁_elim c.requires.growing le_prop (λ g. let w = c.requires.within in omega (arith, g.lawful.short))
 
 pub link-requires : goal.link-requires
 link-requires c = ∥∥₁_elim c.requires.growing le_prop (within c.args.self.now c.args.row c.args.parent c.args.depth)

@@ -10,8 +10,8 @@ use Rattle.trie.proofs.nodes.Tree.holder.Goals as goal
 pub returns-then-end-row : goal.returns-then-end-row
 returns-then-end-row c = λ l. ∥∥₁_elim c.requires.walked (Bool-set _ _) (λ w. sym (ne_eqb (codes c.args.self.now.rows l) (code (Some c.args.row)) (λ e. none_further c.args.self.now c.args.row c.args.end.node c.args.end.depth l w c.if-end-row.true e)))
 
-pub offset-bounds-self-end : goal.offset-bounds-self-end
-offset-bounds-self-end c =
+pub offset_bounds-self-end : goal.offset_bounds-self-end
+offset_bounds-self-end c =
     let h : c.args.end.node < 3073 = ∥∥₁_elim c.requires.walked le_prop (end_within c.args.self.now c.args.row c.args.end.node c.args.end.depth) in
     omega arith
 

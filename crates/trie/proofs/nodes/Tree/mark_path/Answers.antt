@@ -1,4 +1,4 @@
-use Rattle.std.proofs.Common.{◌≡◌, ℕ, ◌+◌, ◌-◌, ◌<◌, Bool, false, ◌||◌, length, get_or, sym, ap, ◌∙◌, arith}
+use Rattle.std.proofs.Common.{◌≡◌, ℕ, ◌+◌, ◌<◌, Bool, false, ◌||◌, length, get_or, sym, ap, ◌∙◌, arith}
 use mathlib.Core.Logic.{∥∥₁_elim, ∥∥₁_map}
 use mathlib.Core.Bool.{Bool-set}
 use Rattle.trie.specs.Strings.{bit_after, codes}
@@ -9,8 +9,8 @@ use Rattle.trie.proofs.nodes.Tree.mark_path.Goals as goal
 pub loop-depth-init : goal.loop-depth-init
 loop-depth-init c = (∥∥₁_map c.requires (at_root c.args.self.now c.args.address (omega arith)), c.told-marks, λ m h. met_none (codes c.args.self.now.rows m) c.args.address (get_or c.args.marks.now m false))
 
-pub offset-bounds-self-node : goal.offset-bounds-self-node
-offset-bounds-self-node c =
+pub offset_bounds-self-node : goal.offset_bounds-self-node
+offset_bounds-self-node c =
     let h : c.loop-depth.node < 3073 = inside c.args.self.now c.args.address c.loop-depth.node c.loop-depth.depth c.loop-depth.invariant.0 in
     omega arith
 
@@ -24,7 +24,7 @@ returns-then-next-eq0 c =
     let k = c.loop-depth.depth in
     let i = c.loop-depth.node in
     let inv = c.loop-depth.invariant in
-    let e : c.child-at-next.result ≡ child (at t.nodes i) (bit_after a k) = c.child-at-next.ensures ∙ ap (child (at t.nodes i)) c.bit_after.ensures in
+    let e : c.child_at-next.result ≡ child (at t.nodes i) (bit_after a k) = c.child_at-next.ensures ∙ ap (child (at t.nodes i)) c.bit_after.ensures in
     λ l ll. ∥∥₁_elim inv.0 (Bool-set _ _) (λ s.
     let was = get_or c.args.marks.now l false in
     marks_on t a i k l was c.loop-depth.marks c.mark.new.marks inv.0 (omega arith) c.mark.ensures (inv.2 l ll)
@@ -38,14 +38,14 @@ loop-depth-preserved c =
     let k = c.loop-depth.depth in
     let i = c.loop-depth.node in
     let inv = c.loop-depth.invariant in
-    let e : c.child-at-next.result ≡ child (at t.nodes i) (bit_after a k) = c.child-at-next.ensures ∙ ap (child (at t.nodes i)) c.bit_after.ensures in (
-      ∥∥₁_map inv.0 (λ s. stands_on t a i k c.child-at-next.result s (omega arith) e c.if-next-eq0.false),
+    let e : c.child_at-next.result ≡ child (at t.nodes i) (bit_after a k) = c.child_at-next.ensures ∙ ap (child (at t.nodes i)) c.bit_after.ensures in (
+      ∥∥₁_map inv.0 (λ s. stands_on t a i k c.child_at-next.result s (omega arith) e c.if-next-eq0.false),
       ap length c.mark.ensures ∙ found_length c.loop-depth.marks (at t.nodes i).label ∙ inv.1,
       λ l ll. marks_on t a i k l (get_or c.args.marks.now l false) c.loop-depth.marks c.mark.new.marks inv.0 (omega arith) c.mark.ensures (inv.2 l ll),
     )
 
-pub offset-bounds-self-node-2 : goal.offset-bounds-self-node-2
-offset-bounds-self-node-2 c =
+pub offset_bounds-self-node-2 : goal.offset_bounds-self-node-2
+offset_bounds-self-node-2 c =
     let h : c.loop-depth.node < 3073 = inside c.args.self.now c.args.address c.loop-depth.node c.loop-depth.depth c.loop-depth.invariant.0 in
     omega arith
 

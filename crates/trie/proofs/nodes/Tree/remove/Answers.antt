@@ -1,4 +1,4 @@
-use Rattle.std.proofs.Common.{◌-◌, set, None, ap, ◌∙◌}
+use Rattle.std.proofs.Common.{set, None, ap, ◌∙◌}
 use mathlib.Core.Logic.{∥∥₁_elim, ∥∥₁_map}
 use native.Mathlib.Bridge.{le_prop}
 use Rattle.trie.specs.declared.nodes.Tree.{Tree}
@@ -9,10 +9,10 @@ pub seek-end-requires : goal.seek-end-requires
 seek-end-requires c = record { sound = c.requires.sound; lawful = held_lawful c.args.self.now c.args.row c.args.place c.requires.sound c.requires.held }
 
 pub relabel-requires : goal.relabel-requires
-relabel-requires c = ∥∥₁_elim c.seek_end.ensures le_prop (λ w. end_within c.args.self.now c.args.row c.seek_end.result.node c.seek_end.result.depth w.ends)
+relabel-requires c = ∥∥₁_elim c.seek-end.ensures le_prop (λ w. end_within c.args.self.now c.args.row c.seek-end.result.node c.seek-end.result.depth w.ends)
 
 pub trim-requires : goal.trim-requires
-trim-requires c = ∥∥₁_map c.seek_end.ensures (λ w. wiped_as c.args.self.now c.args.row c.seek_end.new.path c.seek_end.result.node c.seek_end.result.depth c.args.place c.relabel.new.self c.relabel.ensures w c.requires.within c.requires.held)
+trim-requires c = ∥∥₁_map c.seek-end.ensures (λ w. wiped_as c.args.self.now c.args.row c.seek-end.new.path c.seek-end.result.node c.seek-end.result.depth c.args.place c.relabel.new.self c.relabel.ensures w c.requires.within c.requires.held)
 
 pub returns : goal.returns
 returns c =

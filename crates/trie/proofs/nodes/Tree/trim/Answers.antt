@@ -1,4 +1,4 @@
-use Rattle.std.proofs.Common.{◌≡◌, ◌-◌, subst, arith}
+use Rattle.std.proofs.Common.{◌≡◌, subst, arith}
 use mathlib.Core.Logic.{∥∥₁_map}
 use Rattle.trie.specs.Trees.{Trimming}
 use Rattle.trie.proofs.Trimmed.{trimmed}

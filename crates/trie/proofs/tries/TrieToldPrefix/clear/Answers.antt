@@ -22,12 +22,12 @@ returns-then-place-gt95 c =
       asked = λ l h. h;
     }
 
-pub returns-in-default : goal.returns-in-default
-returns-in-default c =
+pub returns-in_default : goal.returns-in_default
+returns-in_default c =
     let t = c.args.self.now.tree in
     let p = c.args.place in
     let low : ltb 95 p ≡ false = le-ltb 95 p (omega arith) in
-    let none : (m : Meaning Prefix) → Shown t.rows c.args.self.now.asked m → get_or m.places p None ≡ None = λ m s. none_from (get_or m.places p None) (sym (rows_at m.places p) ∙ ap (λ (xs : List (Option PrefixRow)). get_or xs p None) (sym s.held) ∙ c.in-default.is) in
+    let none : (m : Meaning Prefix) → Shown t.rows c.args.self.now.asked m → get_or m.places p None ≡ None = λ m s. none_from (get_or m.places p None) (sym (rows_at m.places p) ∙ ap (λ (xs : List (Option PrefixRow)). get_or xs p None) (sym s.held) ∙ c.in_default.is) in
     record {
       result = λ m s. sym (cond-false (ltb 95 p) (Err (Label p)) (taken p (get_or m.places p None)) low ∙ ap (taken p) (none m s));
       held = λ m s. record { held = s.held ∙ sym (ap rows_of (ap (set m.places p) (sym (none m s)) ∙ set-get_or m.places p None)); counted = s.counted; small = s.small };
@@ -35,15 +35,15 @@ returns-in-default c =
       asked = λ l h. h;
     }
 
-pub returns-in-err-value : goal.returns-in-err-value
-returns-in-err-value c =
+pub returns-in_err-value : goal.returns-in_err-value
+returns-in_err-value c =
     let t = c.args.self.now.tree in
     let p = c.args.place in
     let found : (m : Meaning Prefix) → Shown t.rows c.args.self.now.asked m → (v : Prefix) × (get_or m.places p None ≡ Some v) × (v.row ≡ c.in-Some.row) = λ m s. some_from (get_or m.places p None) c.in-Some.row (sym (rows_at m.places p) ∙ ap (λ (xs : List (Option PrefixRow)). get_or xs p None) (sym s.held) ∙ c.in-Some.is) in
     let never : (m : Meaning Prefix) → Shown t.rows c.args.self.now.asked m → ⊥ = λ m s.
     let q = found m s in
     let e = c.form.ensures.again q.0 q.2 in
-    let w = c.in-err-value.was in
+    let w = c.in_err-value.was in
     let z : ◌≡◌ {A = ℕ} 0 1 = cc in
     omega arith in
     record {
@@ -63,7 +63,7 @@ returns c =
       result = λ m s.
           let q = found m s in
           let e = c.form.ensures.again q.0 q.2 in
-          sym c.in-ok-value.was ∙ e ∙ sym (cond-false (ltb 95 p) (Err (Label p)) (taken p (get_or m.places p None)) low ∙ ap (taken p) q.1);
+          sym c.in_ok-value.was ∙ e ∙ sym (cond-false (ltb 95 p) (Err (Label p)) (taken p (get_or m.places p None)) low ∙ ap (taken p) q.1);
       held = λ m s. record {
         held = c.remove.ensures.rows ∙ ap (λ (xs : List (Option PrefixRow)). set xs p None) s.held ∙ map_rows_set m.places p None;
         counted = s.counted;

@@ -29,7 +29,7 @@ returns-in-Some c =
     }
 
 pub holder-requires : goal.holder-requires
-holder-requires c = record { walked = ∥∥₁_map c.seek_end.ensures (λ w. w.ends) }
+holder-requires c = record { walked = ∥∥₁_map c.seek-end.ensures (λ w. w.ends) }
 
 pub returns-in-Some-holder : goal.returns-in-Some-holder
 returns-in-Some-holder c =
@@ -38,7 +38,7 @@ returns-in-Some-holder c =
     let v = c.args.value in
     let low : ltb 95 p ≡ false = le-ltb 95 p (omega arith) in
     let k = c.in-Some-holder.label in
-    let fault : (m : Meaning Prefix) → Shown t.rows c.args.self.now.asked m → set_fault equal no_labels m.places p v ≡ Some (Elsewhere k) = λ m s. fault_elsewhere m.places p v low k (vacant_from t.rows m.places p s.held c.in-default.is) (found_some t.rows v c.row-row.result c.row-row.ensures c.holder.result c.holder.ensures m.places s.held k c.in-Some-holder.is) in
+    let fault : (m : Meaning Prefix) → Shown t.rows c.args.self.now.asked m → set_fault equal no_labels m.places p v ≡ Some (Elsewhere k) = λ m s. fault_elsewhere m.places p v low k (vacant_from t.rows m.places p s.held c.in_default.is) (found_some t.rows v c.row-row.result c.row-row.ensures c.holder.result c.holder.ensures m.places s.held k c.in-Some-holder.is) in
     record {
       result = λ m s. sym (ap (λ (f : Option Fault). answer f tt) (fault m s));
       held = λ m s. subst (λ (f : Option Fault). Shown t.rows c.args.self.now.asked (unless f m (put m p (Some v)))) (sym (fault m s)) s;
@@ -50,10 +50,10 @@ pub put-requires : goal.put-requires
 put-requires c =
     let lp : c.args.place < 96 = omega arith in
     record {
-      within = (lp, ∥∥₁_elim c.seek_end.ensures le_prop (λ w. w.ends.within));
-      growing = ∥∥₁_map c.seek_end.ensures (λ w. starts c.args.self.now.tree c.row-row.result c.seek_end.result.node c.seek_end.result.depth c.args.place w.ends lp c.in-default.is);
-      vacant = c.in-default.is;
-      new = new_from c.args.self.now.tree.rows c.args.value c.row-row.result c.row-row.ensures c.holder.result c.holder.ensures c.in-default-holder.is;
+      within = (lp, ∥∥₁_elim c.seek-end.ensures le_prop (λ w. w.ends.within));
+      growing = ∥∥₁_map c.seek-end.ensures (λ w. starts c.args.self.now.tree c.row-row.result c.seek-end.result.node c.seek-end.result.depth c.args.place w.ends lp c.in_default.is);
+      vacant = c.in_default.is;
+      new = new_from c.args.self.now.tree.rows c.args.value c.row-row.result c.row-row.ensures c.holder.result c.holder.ensures c.in_default-holder.is;
     }
 
 pub returns : goal.returns
@@ -63,7 +63,7 @@ returns c =
     let v = c.args.value in
     let low : ltb 95 p ≡ false = le-ltb 95 p (omega arith) in
     let row = c.row-row.result in
-    let fault : (m : Meaning Prefix) → Shown t.rows c.args.self.now.asked m → set_fault equal no_labels m.places p v ≡ None = λ m s. fault_none m.places p v low (vacant_from t.rows m.places p s.held c.in-default.is) (found_none t.rows v row c.row-row.ensures c.holder.result c.holder.ensures m.places s.held c.in-default-holder.is) in
+    let fault : (m : Meaning Prefix) → Shown t.rows c.args.self.now.asked m → set_fault equal no_labels m.places p v ≡ None = λ m s. fault_none m.places p v low (vacant_from t.rows m.places p s.held c.in_default.is) (found_none t.rows v row c.row-row.ensures c.holder.result c.holder.ensures m.places s.held c.in_default-holder.is) in
     record {
       result = λ m s. sym (ap (λ (f : Option Fault). answer f tt) (fault m s));
       held = λ m s. subst (λ (f : Option Fault). Shown c.put.new.self.rows c.args.self.now.asked (unless f m (put m p (Some v)))) (sym (fault m s)) record {
