@@ -10,7 +10,8 @@ use reasons::sides::Side;
 use reasons::why;
 use std::alloc::{AllocError, Global};
 
-#[derive(Clone, Copy)]
+// From the best to the worst: a filter comes out as the worst of its values.
+#[derive(Clone, Copy, PartialEq, Eq, PartialOrd, Ord)]
 pub enum Outcome {
     Taken,
     NotTaken,
