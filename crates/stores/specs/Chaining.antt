@@ -4,6 +4,8 @@ use Rattle.std.proofs.Common.{sym, ap, subst, ◌∙◌, ⊎_elim, arith, length
 use Rattle.std.proofs.lemmas.List.{get_or-set_same, get_or-set_other, get_or-replicate, get_or_past, length-replicate}
 use Rattle.std.proofs.lemmas.List.Sums.{sum_by-set, count_by-le-length}
 use Rattle.std.proofs.lemmas.Bool.{cases_Bool, cases_eq, cases_lt, both_ways, eq-eqb, ne_eqb, eqb-true}
+use Rattle.std.proofs.lemmas.Bool.Decides.{Decides-eqb}
+use Rattle.std.specs.List.{find as find_in}
 use Rattle.parts.specs.Meaning.{Single, at, find}
 use Rattle.stores.specs.Chains.{Linked, times, Chain, Chained, first_holding}
 use Rattle.stores.specs.Finding.{none_some, split, at_held, held_at, find_some, find_none, full_within}
@@ -52,7 +54,7 @@ at_other k j o e n = ap (λ (x : Option ℕ). cond (at nat_eq k x) 1 0) e ∙ ap
 pub chain_short : (hs ns keys : List (Option ℕ)) (k : ℕ) → length keys ≡ 96 → (c : Chain hs ns keys k) → length c.order ≤ 96
 chain_short hs ns keys k l c = omega (arith, c.long, count_by-le-length (at nat_eq k) keys)
 
-pub held_once : (hs ns keys : List (Option ℕ)) (k p : ℕ) (c : Chain hs ns keys k) → slice_index_or keys p None ≡ Some k → 0 < times p c.order
+held_once : (hs ns keys : List (Option ℕ)) (k p : ℕ) (c : Chain hs ns keys k) → slice_index_or keys p None ≡ Some k → 0 < times p c.order
 held_once hs ns keys k p c h = omega (arith, c.exact p, at_some k k (slice_index_or keys p None) h refl)
 
 pub linked : (hs ns keys : List (Option ℕ)) (k p : ℕ) → Chained hs ns keys → k < 96 → p < 96 → slice_index_or keys p None ≡ None
@@ -145,7 +147,7 @@ at_most true = omega arith
 at_most false = omega arith
 
 -- the place stands after another of its chain
-pub unlinked_after : (hs ns keys : List (Option ℕ)) (k p : ℕ) (c : Chained hs ns keys) (front : List ℕ) (here : ℕ) (back : List ℕ) → slice_index_or keys p None ≡ Some k → (c.chain k).order ≡ front ++ here ∷ p ∷ back
+unlinked_after : (hs ns keys : List (Option ℕ)) (k p : ℕ) (c : Chained hs ns keys) (front : List ℕ) (here : ℕ) (back : List ℕ) → slice_index_or keys p None ≡ Some k → (c.chain k).order ≡ front ++ here ∷ p ∷ back
     → Chained hs (slice_set ns here (slice_index_or ns p None)) (slice_set keys p None)
 unlinked_after hs ns keys k p c front here back held e =
     let d = c.chain k in
@@ -203,51 +205,36 @@ module _ {V : Type 0} (eq : V → V → Bool) (decides : (a b : V) → Decides (
       first_some xs v r.0 ps s h (omega (arith, once r.0 h)) ∙ sym r.1)
       (split (find eq xs v))
 
-  -- walking along a chain: at its end, after all its places, at a place that holds v, at another
-  pub walk_end : (ns : List (Option ℕ)) (xs : List (Option V)) (v : V) (ps : List ℕ) → Linked ns None ps → first_holding eq xs v ps ≡ None
-  walk_end ns xs v [] l = refl
-  walk_end ns xs v (p ∷ ps) l = absurd (none_some p l.0)
+begins : (ns : List (Option ℕ)) (p : ℕ) (o : Option ℕ) (ps : List ℕ) → Linked ns o ps → o ≡ Some p → (back : List ℕ) × (ps ≡ p ∷ back)
+begins ns p o [] l e = absurd (none_some p (sym l ∙ e))
+begins ns p o (q ∷ back) l e =
+    let s : Some q ≡ Some p = sym l.0 ∙ e in
+    let t : q ≡ p = cc in
+    (back, ap (λ (n : ℕ). n ∷ back) t)
 
-  pub walk_all : (xs : List (Option V)) (v : V) (ps : List ℕ) (i : ℕ) → length ps + i ≤ 96 → 96 ≤ i → first_holding eq xs v ps ≡ None
-  walk_all xs v [] i h w = refl
-  walk_all xs v (p ∷ ps) i h w = absurd (omega arith)
+-- the first place of a chain that leads to p stands just before p
+precedes : (ns : List (Option ℕ)) (o : Option ℕ) (p : ℕ) (ps : List ℕ) → Linked ns o ps → (o ≢ Some p) → 0 < times p ps
+    → (front : List ℕ) × (here : ℕ) × (back : List ℕ) × (ps ≡ front ++ here ∷ p ∷ back) × (find_in (λ h. at nat_eq p (slice_index_or ns h None)) ps ≡ Some here)
+precedes ns o p [] l n t = absurd (omega arith)
+precedes ns o p (q ∷ rest) l n t =
+    let test = λ (h : ℕ). at nat_eq p (slice_index_or ns h None) in
+    ⊎_elim
+    (λ (b : test q ≡ true).
+    let r = begins ns p (slice_index_or ns q None) rest l.1 (at_held nat_eq Decides-eqb p (slice_index_or ns q None) b) in
+    ([], q, r.0, ap (λ (xs : List ℕ). q ∷ xs) r.1, ap (λ (c : Bool). cond c (Some q) (find_in test rest)) b))
+    (λ (b : test q ≡ false).
+    let r = precedes ns (slice_index_or ns q None) p rest l.1 (λ e. both_ways (test q) b (held_at nat_eq Decides-eqb p (slice_index_or ns q None) e)) (omega (arith, times_other p q rest (λ e. n (l.0 ∙ ap Some (sym e))))) in
+    (q ∷ r.0, r.1, r.2, ap (λ (xs : List ℕ). q ∷ xs) r.3, ap (λ (c : Bool). cond c (Some q) (find_in test rest)) b ∙ r.4))
+    (cases_Bool (test q))
 
-  pub walk_here : (ns : List (Option ℕ)) (xs : List (Option V)) (v : V) (p : ℕ) (ps : List ℕ) → Linked ns (Some p) ps → at eq v (slice_index_or xs p None) ≡ true → first_holding eq xs v ps ≡ Some p
-  walk_here ns xs v p [] l t = absurd (none_some p (sym l))
-  walk_here ns xs v p (q ∷ ps) l t =
-      let e : p ≡ q = let h = l.0 in cc in
-      ap (λ (b : Bool). cond b (Some q) (first_holding eq xs v ps)) (ap (λ (n : ℕ). at eq v (slice_index_or xs n None)) (sym e) ∙ t) ∙ ap Some (sym e)
-
-  pub walk_on : (ns : List (Option ℕ)) (xs : List (Option V)) (v : V) (p : ℕ) (ps : List ℕ) → Linked ns (Some p) ps → at eq v (slice_index_or xs p None) ≡ false
-      → (rest : List ℕ) × Linked ns (slice_index_or ns p None) rest × (length rest + 1 ≡ length ps) × (first_holding eq xs v rest ≡ first_holding eq xs v ps)
-  walk_on ns xs v p [] l t = absurd (none_some p (sym l))
-  walk_on ns xs v p (q ∷ ps) l t =
-      let e : p ≡ q = let h = l.0 in cc in
-      (ps, subst (λ (n : ℕ). Linked ns (slice_index_or ns n None) ps) (sym e) l.1, omega arith, sym (ap (λ (b : Bool). cond b (Some q) (first_holding eq xs v ps)) (ap (λ (n : ℕ). at eq v (slice_index_or xs n None)) (sym e) ∙ t)))
-
--- seeking the place before p: at the end of the chain, after all its places, just before p, further ahead
-pub seek_end : (ns : List (Option ℕ)) (p : ℕ) (ps : List ℕ) → Linked ns None ps → 0 < times p ps → ⊥
-seek_end ns p [] l h = omega arith
-seek_end ns p (q ∷ ps) l h = none_some q l.0
-
-pub seek_all : (p : ℕ) (ps : List ℕ) (i : ℕ) → length ps + i ≤ 96 → 96 ≤ i → 0 < times p ps → ⊥
-seek_all p [] i h w t = omega arith
-seek_all p (q ∷ ps) i h w t = omega arith
-
-pub seek_here : (ns : List (Option ℕ)) (p h : ℕ) (ps : List ℕ) → Linked ns (Some h) ps → slice_index_or ns h None ≡ Some p → (back : List ℕ) × (ps ≡ h ∷ p ∷ back)
-seek_here ns p h [] l e = absurd (none_some h (sym l))
-seek_here ns p h (q ∷ []) l e = let s : h ≡ q = let t = l.0 in cc in absurd (none_some p (sym l.1 ∙ ap (λ (n : ℕ). get_or ns n None) (sym s) ∙ e))
-seek_here ns p h (q ∷ r ∷ back) l e =
-    let s : h ≡ q = let t = l.0 in cc in
-    let f : Some p ≡ Some r = sym e ∙ ap (λ (n : ℕ). get_or ns n None) s ∙ l.1.0 in
-    let u : p ≡ r = cc in
-    (back, ap (λ (n : ℕ). n ∷ r ∷ back) (sym s) ∙ ap (λ (n : ℕ). h ∷ n ∷ back) (sym u))
-
-pub seek_on : (ns : List (Option ℕ)) (p h : ℕ) (ps : List ℕ) → Linked ns (Some h) ps → (Some h ≢ Some p) → 0 < times p ps → (rest : List ℕ) × (ps ≡ h ∷ rest) × Linked ns (slice_index_or ns h None) rest × (0 < times p rest)
-seek_on ns p h [] l n t = absurd (omega arith)
-seek_on ns p h (q ∷ rest) l n t =
-    let s : h ≡ q = let u = l.0 in cc in
-    (rest, ap (λ (m : ℕ). m ∷ rest) (sym s), subst (λ (m : ℕ). Linked ns (slice_index_or ns m None) rest) (sym s) l.1, omega (arith, times_other p q rest (λ e. n (ap Some (s ∙ sym e)))))
+-- what a walk to the place before p finds, where p is not the first of its chain
+pub unlinked_later : (hs ns keys : List (Option ℕ)) (k p : ℕ) → Chained hs ns keys → slice_index_or keys p None ≡ Some k → (slice_index_or hs k None ≢ Some p) → (r : Option ℕ)
+    → ((ps : List ℕ) → Linked ns (slice_index_or hs k None) ps → length ps ≤ 96 → r ≡ find_in (λ h. at nat_eq p (slice_index_or ns h None)) ps)
+    → (here : ℕ) × (r ≡ Some here) × Chained hs (slice_set ns here (slice_index_or ns p None)) (slice_set keys p None)
+unlinked_later hs ns keys k p c held other r walk =
+    let d = c.chain k in
+    let b = precedes ns (slice_index_or hs k None) p d.order d.linked other (held_once hs ns keys k p d held) in
+    (b.1, walk d.order d.linked (chain_short hs ns keys k c.keys_size d) ∙ b.4, unlinked_after hs ns keys k p c b.0 b.1 b.2 held b.3)
 
 none_keyed : (k n : ℕ) → count_by (at nat_eq k) (replicate n None) ≡ 0
 none_keyed k zero = refl
