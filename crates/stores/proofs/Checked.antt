@@ -8,10 +8,9 @@ use Rattle.fields.specs.declared.faults.Fault.TheVariants.{Label, Full, Elsewher
 use Rattle.fields.specs.Faults.{answer, unless, when, first_fault}
 use Rattle.parts.specs.Meaning.{Meaning, find, full, label_fault, elsewhere, set_fault, taken, cleared, put, after_set}
 use Rattle.stores.specs.declared.pairs.Pair.{Pair}
-use Rattle.stores.specs.Pairs.{same_pair, pair_labels}
+use Rattle.stores.specs.Pairs.{same_pair, pair_labels, Within}
 use Rattle.stores.specs.Checks.{set_refusal, taken_from}
-use Rattle.stores.specs.Cells.{Within}
-use Rattle.stores.specs.Finding.{none_some, split, set_none}
+use Rattle.stores.proofs.Finding.{none_some, split, set_none}
 
 pub answer_err : {A : Type 0} (o : Option Fault) (a : A) (f : Fault) → answer o a ≡ Err f → o ≡ Some f
 answer_err None a f e = absurd (let z : ◌≡◌ {A = ℕ} 0 1 = cc in omega arith)

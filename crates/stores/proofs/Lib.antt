@@ -1,2 +1,7 @@
+pub mod Finding
 pub mod Checked
-pub mod Steps
+pub mod Storing
+pub mod Chaining
+pub mod Walking
+pub mod Celling
+mod Steps

@@ -3,7 +3,7 @@ use Rattle.std.proofs.Common.{◌≡◌, ℕ, zero, suc, ◌+◌, ◌-◌, ◌<�
 use Rattle.std.specs.Option.{IsSomeAnd, option_map}
 use Rattle.std.specs.List.{find}
 use Rattle.stores.specs.Chains.{Linked}
-use Rattle.stores.specs.Finding.{none_some}
+use Rattle.stores.proofs.Finding.{none_some}
 
 -- the first item is where the chain begins, and each item's place leads to the next item
 pub record Walk (ns : List (Option ℕ)) (o : Option ℕ) (at : ℕ → Option ℕ) : Type 0 where

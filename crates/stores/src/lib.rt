@@ -3,6 +3,8 @@
 pub mod chain_store;
 mod chains;
 pub mod grid;
+pub mod index;
+pub mod indexed;
 pub mod labels;
 pub mod pairs;
 pub mod store;

@@ -2,8 +2,8 @@ use Rattle.std.proofs.Common.{◌≡◌, ℕ, ◌≤◌, List, length, get_or, s
 use Rattle.std.specs.List.{find as find_in}
 use Rattle.parts.specs.Meaning.{at}
 use Rattle.stores.specs.Chains.{Linked, Chained}
-use Rattle.stores.specs.Finding.{none_some}
-use Rattle.stores.specs.Chaining.{unlinked_first, unlinked_later}
+use Rattle.stores.proofs.Finding.{none_some}
+use Rattle.stores.proofs.Chaining.{unlinked_first, unlinked_later}
 use Rattle.stores.proofs.chains.Chains.unlink.Goals as goal
 
 pub returns-then-eq : goal.returns-then-eq
