@@ -4,9 +4,8 @@ ghost use Rattle.std.specs.List.{find as find_in};
 ghost use Rattle.stores.specs.Pairs.{same_pair};
 ghost use Rattle.stores.specs.Chains.{Linked, Chained, first_holding};
 
-use crate::labels::{entry_at, put_at};
 use crate::pairs::Pair;
-use fields::keys::Key;
+use parts::checks::{entry_at, put_at};
 use parts::marks::PLACES;
 
 #[derive(Clone, Copy)]

@@ -6,8 +6,8 @@ ghost use Rattle.stores.specs.Cells.{CellsLead};
 
 use crate::index::Index;
 use crate::indexed::IndexedStore;
-use crate::labels::{entry_at, put_at};
 use crate::pairs::Pair;
+use parts::checks::{entry_at, put_at};
 use parts::marks::PLACES;
 
 const CELLS: usize = PLACES * PLACES;

@@ -7,10 +7,10 @@ ghost use Rattle.stores.specs.Stored.{Shows};
 ghost use Rattle.stores.specs.Proper.{stored_proper};
 
 use crate::index::Index;
-use crate::labels::{check_clear, check_labels, check_set, entry_at, put_at};
 use crate::pairs::Pair;
 use crate::store::Store;
 use fields::faults::Fault;
+use parts::checks::{check_clear, check_labels, check_set, entry_at, put_at};
 use parts::marks::PLACES;
 use parts::told::Told;
 
@@ -70,7 +70,7 @@ impl<I: Index> Told<Pair> for IndexedStore<I> {
     fn set(&mut self, place: u8, value: Pair) -> Result<(), Fault> {
         let held = entry_at(&self.pairs, place as usize);
         let found = self.look_up(value);
-        check_set(place, value, held, found)?;
+        check_set(place, &[value.left, value.right], held, found)?;
         self.index.enter(value, place);
         put_at(&mut self.pairs, place as usize, Some(value));
         Ok(())

@@ -5,6 +5,5 @@ mod chains;
 pub mod grid;
 pub mod index;
 pub mod indexed;
-pub mod labels;
 pub mod pairs;
 pub mod store;

@@ -2,7 +2,7 @@ use Rattle.std.proofs.Common.{◌≡◌, List, get_or, Some, None, Option, sym, 
 use Rattle.parts.specs.Meaning.{Meaning, find, set_fault, put}
 use Rattle.stores.specs.declared.pairs.Pair.{Pair}
 use Rattle.stores.specs.Pairs.{same_pair, pair_labels}
-use Rattle.stores.specs.Checks.{set_refusal}
+use Rattle.parts.specs.Checks.{set_refusal}
 use Rattle.stores.specs.Places.{Free}
 use Rattle.stores.specs.Stored.{Stored}
 use Rattle.stores.proofs.Checked.{answer_ok, accepted, refusal_is, set_done}
@@ -15,7 +15,7 @@ returns-clause-held g c m h =
     let l = c.args.place in
     let v = c.args.value in
     let leads = g.I.Index.leads in
-    let none : set_refusal l v c.entry_at-held.result c.look_up-found.result ≡ None = answer_ok (set_refusal l v c.entry_at-held.result c.look_up-found.result) tt tt (sym c.check_set.ensures ∙ c.in_ok-check_set.was) in
+    let none : set_refusal l (pair_labels v) c.entry_at-held.result c.look_up-found.result ≡ None = answer_ok (set_refusal l (pair_labels v) c.entry_at-held.result c.look_up-found.result) tt tt (sym c.check_set.ensures ∙ c.in_ok-check_set.was) in
     let ok = accepted l v c.entry_at-held.result c.look_up-found.result none in
     let is : set_fault same_pair pair_labels m.places l v ≡ None
     = sym (refusal_is m.places l v c.entry_at-held.result c.look_up-found.result (c.entry_at-held.ensures ∙ ap (λ (xs : List (Option Pair)). get_or xs l None) h.places) (c.look_up-found.ensures.found m h)) ∙ none in
