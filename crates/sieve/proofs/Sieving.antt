@@ -6,11 +6,10 @@ use Rattle.fields.specs.declared.faults.Fault.{Fault}
 use Rattle.fields.specs.Faults.{answer}
 use Rattle.parts.specs.Meaning.{Meaning, meaning, Proper, nothing, put, asked_once}
 use Rattle.stores.specs.declared.pairs.Pair.{Pair}
-use Rattle.sieve.specs.declared.counters.Change.TheVariants.{Up, Down}
 use Rattle.sieve.specs.Touched.{slots}
-use Rattle.sieve.specs.Counted.{above, questions, change_all}
+use Rattle.sieve.specs.Counted.{above, questions, one_more, one_fewer, change_all}
 use Rattle.sieve.specs.Sieved.{Sieved}
-use Rattle.sieve.specs.Counting.{counts_set, counts_clear, length_changed, nothing_counted}
+use Rattle.sieve.proofs.Counting.{counts_set, counts_clear, length_changed, nothing_counted}
 
 pub answer_value : {A : Type 0} (o : Option Fault) (a b : A) → Ok b ≡ answer o a → b ≡ a
 answer_value None a b e = cc
@@ -37,28 +36,23 @@ module _ {B : Type 0} (shows : B → Meaning Pair → Type 0) (proper : (s : B) 
   pub sieved_size : (below : B) (cs : List ℕ) (asked : ℕ) (m : Meaning Pair) → Sieved shows below cs asked m → length m.places ≡ 96
   sieved_size below cs asked m h = (proper below (meaning m.places h.asked_below) h.holds).size
 
-  pub sieved_proper : (below : B) (cs : List ℕ) (asked : ℕ) (m : Meaning Pair) → Sieved shows below cs asked m → Proper m
-  sieved_proper below cs asked m h =
-      let p = proper below (meaning m.places h.asked_below) h.holds in
-      record { size = p.size; single = p.single; counted = omega (arith, h.asked_is, h.counted) }
-
   pub sieved_set : (below below' : B) (cs : List ℕ) (asked : ℕ) (m : Meaning Pair) (h : Sieved shows below cs asked m) (l : ℕ) (v : Pair) → l < 96 → slice_index_or m.places l None ≡ None
-      → shows below' (put (meaning m.places h.asked_below) l (Some v)) → Sieved shows below' (change_all Up (slots v) cs) asked (put m l (Some v))
+      → shows below' (put (meaning m.places h.asked_below) l (Some v)) → Sieved shows below' (change_all one_more (slots v) cs) asked (put m l (Some v))
   sieved_set below below' cs asked m h l v b free s = record {
     asked_below = h.asked_below;
     holds = s;
-    counters_size = length_changed Up (slots v) cs ∙ h.counters_size;
+    counters_size = length_changed one_more (slots v) cs ∙ h.counters_size;
     counts = counts_set cs m.places h.counters_size h.counts l v (sieved_size below cs asked m h) b free;
     asked_is = h.asked_is;
     counted = h.counted;
   }
 
   pub sieved_clear : (below below' : B) (cs : List ℕ) (asked : ℕ) (m : Meaning Pair) (h : Sieved shows below cs asked m) (l : ℕ) (v : Pair) → slice_index_or m.places l None ≡ Some v
-      → shows below' (put (meaning m.places h.asked_below) l None) → Sieved shows below' (change_all Down (slots v) cs) asked (put m l None)
+      → shows below' (put (meaning m.places h.asked_below) l None) → Sieved shows below' (change_all one_fewer (slots v) cs) asked (put m l None)
   sieved_clear below below' cs asked m h l v full s = record {
     asked_below = h.asked_below;
     holds = s;
-    counters_size = length_changed Down (slots v) cs ∙ h.counters_size;
+    counters_size = length_changed one_fewer (slots v) cs ∙ h.counters_size;
     counts = counts_clear cs m.places h.counters_size h.counts l v full;
     asked_is = h.asked_is;
     counted = h.counted;
