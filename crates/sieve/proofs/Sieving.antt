@@ -13,7 +13,7 @@ use Rattle.sieve.proofs.Counting.{counts_set, counts_clear, length_changed, noth
 
 pub answer_value : {A : Type 0} (o : Option Fault) (a b : A) → Ok b ≡ answer o a → b ≡ a
 answer_value None a b e = cc
-answer_value (Some f) a b e = absurd (let z : ◌≡◌ {A = ℕ} 0 1 = cc in omega arith)
+answer_value (Some f) a b e = cc
 
 module _ {B : Type 0} (shows : B → Meaning Pair → Type 0) (proper : (s : B) (m : Meaning Pair) → shows s m → Proper m) where
   pub nothing_sieved : (below : B) → shows below nothing → Sieved shows below (replicate 512 0) 0 nothing

@@ -4,7 +4,7 @@ use Rattle.fields.specs.Faults.{answer}
 use Rattle.parts.specs.Meaning.{label_fault}
 use Rattle.stores.specs.Pairs.{pair, same_pair}
 use Rattle.stores.specs.Alike.{pair_decides}
-use Rattle.stores.proofs.Finding.{find_some}
+use Rattle.parts.proofs.Finding.{find_some}
 use Rattle.stores.proofs.Checked.{answer_ok}
 use Rattle.sieve.specs.Touched.{every, listed}
 use Rattle.sieve.specs.Counted.{passing, above}
