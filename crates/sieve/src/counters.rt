@@ -40,6 +40,7 @@ fn count_at<F: Fn(u8) -> u8>(counters: &mut [u8; COUNTERS], slot: Option<u16>, s
     requires { F.IsAlwaysCallable step.now }
     ensures { (change : ℕ → ℕ) → Gives (F.post step.now) change → counters.new ≡ change_at change slot counters.old }
 {
+    // By index, since after a write through `get_mut` nothing is known of the other counters.
     if let Some(i) = slot
         && (i as usize) < COUNTERS
     {

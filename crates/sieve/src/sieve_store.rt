@@ -39,7 +39,7 @@ impl<S: Store> Sieve<S> {
         }
     }
 
-    // How often the sieve was asked since it was emptied, modulo 2^32.
+    // How often the sieve was asked since it was emptied, modulo 2^32; the store below counts for itself what it is asked.
     pub fn asked_number(&self) -> u32
         ensures value { result ≡ self.now.asked }
         ensures counts { (m : Meaning Pair) → Shows S.Told.shows self.now m → result ≡ m.asked }

@@ -8,6 +8,7 @@ use crate::pairs::Pair;
 use parts::checks::{entry_at, put_at};
 use parts::marks::PLACES;
 
+// The links are indices in two arrays, since a part allocates nothing.
 #[derive(Clone, Copy)]
 pub struct Chains {
     heads: [Option<u8>; PLACES],
