@@ -61,10 +61,7 @@ impl Direct {
     fn numbered_label(&self, number: u32) -> Option<u8>
         ensures { length self.now.numbered ≡ 256 → result ≡ slice_index_or self.now.numbered number None }
     {
-        if number as usize >= NUMBERS {
-            return None;
-        }
-        self.numbered[number as usize]
+        self.numbered.get(number as usize).copied().flatten()
     }
 
     // Keeps a label, or none, for a value.
@@ -102,8 +99,7 @@ impl Told<Protocol> for Direct {
         if at >= PLACES {
             return Err(Fault::Label(place));
         }
-        let here = self.held[at];
-        if here.is_some() {
+        if self.held[at].is_some() {
             return Err(Fault::Full(place));
         }
         let row = value.row();

@@ -41,9 +41,7 @@ impl<'a, R: Copy> RowTable<'a, R> {
     pub fn form(rows: &'a mut [R]) -> Result<RowTable<'a, R>, Fault>
         ensures { answer_by (λ t. t.rows.now) result ≡ answer (list_fault (length rows.old)) rows.old }
     {
-        if let Err(fault) = check_rows(rows) {
-            return Err(fault);
-        }
+        check_rows(rows)?;
         Ok(RowTable { rows })
     }
 

@@ -35,20 +35,14 @@ pub fn held<R: Copy, V: Kind<Row = R>>(rows: &[R], used: &Used, place: usize) ->
 fn hits<V: Kind>(place: Option<V>, number: u32) -> bool
     ensures { result ≡ hit (λ v. V.Kind.satisfied v number) place }
 {
-    match place {
-        Some(value) => value.takes(number),
-        None => false,
-    }
+    place.is_some_and(|value| value.takes(number))
 }
 
 // Whether a place holds this value.
 fn holds<V: Key>(place: Option<V>, value: V) -> bool
     ensures { result ≡ holding V.Key.eq value place }
 {
-    match place {
-        Some(other) => value.same(&other),
-        None => false,
-    }
+    place.is_some_and(|other| value.same(&other))
 }
 
 // The label of the place that holds a value.

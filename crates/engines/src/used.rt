@@ -58,11 +58,7 @@ impl Used {
 fn top_of(full: &[bool; PLACES]) -> usize
     ensures { Idle full.now result }
 {
-    let mut top = 0;
-    for (place, is_full) in full.iter().enumerate() {
-        if *is_full {
-            top = place + 1;
-        }
-    }
-    top
+    full.iter()
+        .rposition(|is_full| *is_full)
+        .map_or(0, |place| place + 1)
 }
