@@ -23,7 +23,8 @@ fn main(rt: HostRuntime) -> anyhow::Result<()> {
         }
     }
     let mut rows = [ProtocolRow::Any; 100];
-    tour(&rt, RowTable::checked(&mut rows), &calls)
+    let table = RowTable::form(&mut rows).map_err(|fault| anyhow!("{fault:?}"))?;
+    tour(&rt, table, &calls)
 }
 
 // Runs the calls on both engines, and shows the answers of one: those of the other are equal.

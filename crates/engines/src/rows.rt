@@ -44,14 +44,6 @@ impl<'a, R: Copy> RowTable<'a, R> {
         check_rows(rows)?;
         Ok(RowTable { rows })
     }
-
-    // The same for rows that were checked, where a table cannot be taken out of a Result.
-    pub fn checked(rows: &'a mut [R]) -> RowTable<'a, R>
-        requires { 96 ≤ length rows.old }
-        ensures { result.rows.now ≡ rows.old }
-    {
-        RowTable { rows }
-    }
 }
 
 impl<'a, R: Copy> Rows<R> for RowTable<'a, R> {
