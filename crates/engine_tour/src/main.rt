@@ -4,7 +4,7 @@
 mod script;
 
 use crate::script::{Shown, read};
-use anyhow::{Context, anyhow};
+use anyhow::Context;
 use engine_runs::calls::Call;
 use engine_runs::runs::run_both;
 use engines::direct::Direct;
@@ -19,8 +19,7 @@ fn main(rt: HostRuntime) -> anyhow::Result<()> {
         calls.push(read(&line?).context("not a call")?)?;
     }
     let mut rows = [ProtocolRow::Any; 100];
-    let table = RowTable::form(&mut rows).map_err(|fault| anyhow!("{fault:?}"))?;
-    tour(&rt, table, &calls)
+    tour(&rt, RowTable::form(&mut rows)?, &calls)
 }
 
 // Runs the calls on both engines, and shows the answers of one: those of the other are equal.

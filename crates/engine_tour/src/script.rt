@@ -29,6 +29,7 @@ fn read_value(word: &str) -> Option<Protocol> {
 }
 
 // An answer as the text of one line; a refusal by its number and detail.
+#[derive(Clone, Copy)]
 pub struct Shown(pub Answer<Protocol>);
 
 impl fmt::Display for Shown {
@@ -40,18 +41,18 @@ impl fmt::Display for Shown {
                 ProtocolRow::Any => write!(f, "cleared any"),
                 ProtocolRow::Only(number) => write!(f, "cleared {number}"),
             },
-            Answer::Matched(Ok(count), list) => {
-                write!(f, "matched {count}:")?;
-                for label in list.iter().take(count) {
-                    write!(f, " {label}")?;
-                }
-                Ok(())
-            }
+            Answer::Matched(Ok(count), list) => write_labels(f, count, &list),
             Answer::Set(Err(fault))
             | Answer::Cleared(Err(fault))
-            | Answer::Matched(Err(fault), _) => {
-                write!(f, "refused {} {}", fault.number(), fault.detail())
-            }
+            | Answer::Matched(Err(fault), _) => write!(f, "refused {fault}"),
         }
     }
+}
+
+fn write_labels<W: fmt::Write>(f: &mut fmt::Formatter<W>, count: usize, list: &[u8]) -> fmt::Result {
+    write!(f, "matched {count}:")?;
+    for label in list.iter().take(count) {
+        write!(f, " {label}")?;
+    }
+    Ok(())
 }

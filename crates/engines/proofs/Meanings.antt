@@ -7,6 +7,7 @@ use Rattle.fields.specs.declared.faults.Fault.{Fault}
 use Rattle.fields.specs.declared.faults.Fault.TheVariants.{Label, Full, Elsewhere, Short}
 use Rattle.fields.specs.Faults.{answer, first_fault, unless, when}
 use Rattle.parts.specs.Meaning.{Meaning, Proper, meaning, nothing, put, find, full, elsewhere, label_fault, set_fault, cleared, taken, asked_once, list_fault}
+use Rattle.parts.specs.Checks.{set_refusal, taken_from}
 use Rattle.engines.proofs.Finding.{apart, find_absent}
 
 -- no place of an empty meaning holds a value
@@ -86,10 +87,45 @@ kept_empty {V} m l e = ap (λ (xs : List (Option V)). meaning xs m.asked) (sym (
 pub asked_more : (l : List ℕ) (n x : ℕ) → n ≡ length l % 2 ^ 32 → (n + 1) % 2 ^ 32 ≡ length (l ++ x ∷ []) % 2 ^ 32
 asked_more l n x e = ap (λ (k : ℕ). (k + 1) % 2 ^ 32) e ∙ mod-add-mod (length l) (2 ^ 32) 1 ∙ ap (λ (k : ℕ). k % 2 ^ 32) (sym (length-append l (x ∷ [])))
 
+-- what lets a value that names no label be set, and what lets a place be cleared
+pub set_allowed : {V : Type 0} (l : ℕ) (held : Option V) (found : Option ℕ) → set_refusal l [] held found ≡ None → (l < 96) × (held ≡ None) × (found ≡ None)
+set_allowed {V} l held found e = ⊎_elim
+    (λ (w : l < 96). let g : set_refusal l [] held found ≡ first_fault (when (full held) (Full l) ∷ elsewhere found ∷ []) = ap (λ (b : Bool). first_fault (cond b (Some (Label l)) None ∷ when (full held) (Full l) ∷ elsewhere found ∷ [])) (le-ltb 95 l (omega arith)) in
+    let r = by held found (sym g ∙ e) in (w, r.0, r.1))
+    (λ (p : 96 ≤ l). let g : set_refusal l [] held found ≡ Some (Label l) = ap (λ (b : Bool). first_fault (cond b (Some (Label l)) None ∷ when (full held) (Full l) ∷ elsewhere found ∷ [])) (lt-ltb 95 l (omega arith)) in absurd (cc))
+    (cases_lt l 96) where
+      by : (h : Option V) (f : Option ℕ) → first_fault (when (full h) (Full l) ∷ elsewhere f ∷ []) ≡ None → (h ≡ None) × (f ≡ None)
+      by None None d = (refl, refl)
+      by None (Some k) d = absurd (cc)
+      by (Some v) f d = absurd (cc)
+
+pub clear_allowed : {V : Type 0} (l : ℕ) (held : Option V) (v : V) → taken_from l held ≡ Ok v → (l < 96) × (held ≡ Some v)
+clear_allowed {V} l held v e = ⊎_elim (λ (w : l < 96). (w, by held (sym (ap (λ (b : Bool). cond b (Err (Label l)) (taken l held)) (le-ltb 95 l (omega arith))) ∙ e)))
+    (λ (p : 96 ≤ l). let g : taken_from l held ≡ Err (Label l) = ap (λ (b : Bool). cond b (Err (Label l)) (taken l held)) (lt-ltb 95 l (omega arith)) in absurd (cc))
+    (cases_lt l 96) where
+      by : (h : Option V) → taken l h ≡ Ok v → h ≡ Some v
+      by None d = absurd (cc)
+      by (Some w) d = cc
+
+-- the check of a set tells of its fault, and a clear that is refused changes nothing
+pub set_told : {V : Type 0} (eq : V → V → Bool) (labels : V → List ℕ) (xs : List (Option V)) (l : ℕ) (v : V) → labels v ≡ [] → (held : Option V) (found : Option ℕ) → held ≡ get_or xs l None → found ≡ find eq xs v → set_refusal l [] held found ≡ set_fault eq labels xs l v
+set_told {V} eq labels xs l v bare held found h f =
+    ap (λ (ls : List ℕ). set_refusal l ls held found) (sym bare) ∙ ap (λ (o : Option V). set_refusal l (labels v) o found) h ∙ ap (λ (o : Option ℕ). set_refusal l (labels v) (get_or xs l None) o) f
+
+pub clear_refused : {V : Type 0} (m : Meaning V) (l : ℕ) (e : Fault) → length m.places ≡ 96 → cleared m.places l ≡ Err e → m ≡ put m l None
+clear_refused {V} m l e n r = ⊎_elim (λ (w : l < 96). by w (get_or m.places l None) refl) (λ (p : 96 ≤ l). kept_empty m l (get_or_past m.places l None (omega arith))) (cases_lt l 96) where
+  by : l < 96 → (o : Option V) → get_or m.places l None ≡ o → m ≡ put m l None
+  by w None q = kept_empty m l q
+  by w (Some v) q = let z : Ok v ≡ Err e = sym (cleared_within m.places l (Some v) w (sym q)) ∙ r in absurd (cc)
+
 -- a refused call leaves what was, another leaves what it made
 pub unless_refused : {A B : Type 0} (f : Option Fault) (a : A) (e : Fault) → answer f a ≡ Err e → (x y : B) → unless f x y ≡ x
 unless_refused None a e h x y = absurd (let z : ◌≡◌ {A = ℕ} 0 1 = cc in omega arith)
 unless_refused (Some g) a e h x y = refl
+
+pub not_refused : {A : Type 0} (f : Option Fault) (a b : A) → answer f a ≡ Ok b → f ≡ None
+not_refused None a b h = refl
+not_refused (Some g) a b h = absurd (cc)
 
 pub unless_done : {A B : Type 0} (f : Option Fault) (a b : A) → answer f a ≡ Ok b → (x y : B) → unless f x y ≡ y
 unless_done None a b h x y = refl

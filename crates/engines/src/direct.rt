@@ -10,6 +10,7 @@ use crate::pairs::write_rising;
 use fields::faults::Fault;
 use fields::kinds::Kind;
 use fields::protocols::{Protocol, ProtocolRow};
+use parts::checks::{check_clear, check_set, entry_at};
 use parts::marks::PLACES;
 use parts::told::Told;
 
@@ -59,9 +60,9 @@ impl Direct {
 
     // The label kept for a number; only numbers of 8 bits have one.
     fn numbered_label(&self, number: u32) -> Option<u8>
-        ensures { length self.now.numbered ≡ 256 → result ≡ slice_index_or self.now.numbered number None }
+        ensures { result ≡ slice_index_or self.now.numbered number None }
     {
-        self.numbered.get(number as usize).copied().flatten()
+        entry_at(&self.numbered, number as usize)
     }
 
     // Keeps a label, or none, for a value.
@@ -96,16 +97,8 @@ impl Told<Protocol> for Direct {
 
     fn set(&mut self, place: u8, value: Protocol) -> Result<(), Fault> {
         let at = place as usize;
-        if at >= PLACES {
-            return Err(Fault::Label(place));
-        }
-        if self.held[at].is_some() {
-            return Err(Fault::Full(place));
-        }
         let row = value.row();
-        if let Some(label) = self.label(row) {
-            return Err(Fault::Elsewhere(label));
-        }
+        check_set(place, &[], entry_at(&self.held, at), self.label(row))?;
         self.held[at] = Some(value);
         self.point(row, Some(place));
         Ok(())
@@ -113,13 +106,7 @@ impl Told<Protocol> for Direct {
 
     fn clear(&mut self, place: u8) -> Result<Protocol, Fault> {
         let at = place as usize;
-        if at >= PLACES {
-            return Err(Fault::Label(place));
-        }
-        let here = self.held[at];
-        let Some(value) = here else {
-            return Err(Fault::Vacant(place));
-        };
+        let value = check_clear(place, entry_at(&self.held, at))?;
         self.held[at] = None;
         self.point(value.row(), None);
         Ok(value)

@@ -31,7 +31,7 @@ fn hits<V: Kind>(place: Option<V>, number: u32) -> bool
 fn holds<V: Key>(place: Option<V>, value: V) -> bool
     ensures { result ≡ holding V.Key.eq value place }
 {
-    place.is_some_and(|other| value.same(&other))
+    place.is_some_and(|other| value == other)
 }
 
 // The label of the place that holds a value.

@@ -20,7 +20,7 @@ returns-in_err-count c =
     let fault = list_fault (length old) in
     let Shows : Meaning Protocol → Type 0 = Reached s.held s.any s.numbered s.asked in
     let found : (m : Meaning Protocol) → Shows m → ls ≡ labels_of (λ v. protocol_takes v.row c.args.number) m.places = λ m h.
-    ap (rising s.any) (c.numbered_label.ensures h.names.numbers) ∙ reached s.held s.any s.numbered h.names c.args.number ∙ ap (labels_of (λ (v : Protocol). protocol_takes v.row c.args.number)) (sym h.places) in
+    ap (rising s.any) c.numbered_label.ensures ∙ reached s.held s.any s.numbered h.names c.args.number ∙ ap (labels_of (λ (v : Protocol). protocol_takes v.row c.args.number)) (sym h.places) in
     let e = err_from_is_err_and c.from_residual.result c.from_residual.ensures.1 in
     let w = c.write_rising.ensures in
     let was = c.in_err-count.was in
@@ -46,7 +46,7 @@ returns c =
     let Was : Meaning Protocol → Type 0 = Reached s.held s.any s.numbered s.asked in
     let Is : Meaning Protocol → Type 0 = Reached s.held s.any s.numbered ((s.asked + 1) % 2 ^ 32) in
     let found : (m : Meaning Protocol) → Was m → ls ≡ labels_of (λ v. protocol_takes v.row c.args.number) m.places = λ m h.
-    ap (rising s.any) (c.numbered_label.ensures h.names.numbers) ∙ reached s.held s.any s.numbered h.names c.args.number ∙ ap (labels_of (λ (v : Protocol). protocol_takes v.row c.args.number)) (sym h.places) in
+    ap (rising s.any) c.numbered_label.ensures ∙ reached s.held s.any s.numbered h.names c.args.number ∙ ap (labels_of (λ (v : Protocol). protocol_takes v.row c.args.number)) (sym h.places) in
     let w = c.write_rising.ensures in
     let made : answer fault (length ls) ≡ Ok n = sym w.result ∙ c.in_ok-count.was in
     record {
