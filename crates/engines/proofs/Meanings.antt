@@ -1,12 +1,11 @@
 -- What the calls leave of a meaning: 96 places, no value at two of them.
-use Rattle.std.proofs.Common.{◌≡◌, ℕ, ◌+◌, ◌%◌, ◌^◌, ◌<◌, ◌≤◌, Bool, true, false, cond, ◌⊎◌, List, [], ◌∷◌, ◌++◌, length, get_or, set, replicate, Some, None, Ok, Err, Decides, Option, sym, refl, ap, ◌∙◌, subst, inl, inr, ⊎_elim, mod-lt, arith, length-append, length-set}
-use native.Mathlib.Nat.{mod-add-mod}
+use Rattle.std.proofs.Common.{◌≡◌, ℕ, ◌<◌, ◌≤◌, Bool, cond, ◌⊎◌, List, [], ◌∷◌, length, get_or, set, replicate, Some, None, Ok, Err, Decides, Option, sym, refl, ap, ◌∙◌, subst, inl, inr, ⊎_elim, arith, length-set}
 use Rattle.std.proofs.lemmas.List.{get_or-set_same, get_or-set_other, get_or_past, get_or-replicate, set-get_or, length-replicate}
 use Rattle.std.proofs.lemmas.Bool.{cases_eq, cases_lt, le-ltb, lt-ltb}
 use Rattle.fields.specs.declared.faults.Fault.{Fault}
-use Rattle.fields.specs.declared.faults.Fault.TheVariants.{Label, Full, Elsewhere, Short}
+use Rattle.fields.specs.declared.faults.Fault.TheVariants.{Label, Full}
 use Rattle.fields.specs.Faults.{answer, first_fault, unless, when}
-use Rattle.parts.specs.Meaning.{Meaning, Proper, meaning, nothing, put, find, full, elsewhere, label_fault, set_fault, cleared, taken, asked_once, list_fault}
+use Rattle.parts.specs.Meaning.{Meaning, Proper, meaning, nothing, put, find, full, elsewhere, set_fault, cleared, taken}
 use Rattle.parts.specs.Checks.{set_refusal, taken_from}
 use Rattle.engines.proofs.Finding.{apart, find_absent}
 
@@ -21,28 +20,8 @@ proper_nothing {V} = record {
   counted = omega arith;
 }
 
-pub proper_asked : {V : Type 0} (m : Meaning V) → Proper m → Proper (asked_once m)
-proper_asked m p = record { size = p.size; single = p.single; counted = mod-lt (m.asked + 1) (omega arith) }
-
-module _ {V : Type 0} (eq : V → V → Bool) (labels : V → List ℕ) where
-  -- what refuses to set a value that names no label
-  module _ (xs : List (Option V)) (l : ℕ) (v : V) (bare : labels v ≡ []) (within : l < 96) where
-    pub set_faulty : (b : Bool) (o : Option ℕ) → full (get_or xs l None) ≡ b → find eq xs v ≡ o → set_fault eq labels xs l v ≡ first_fault (when b (Full l) ∷ elsewhere o ∷ [])
-    set_faulty b o p q =
-        let F : Option Fault → Bool → Option ℕ → Option Fault = λ a c k. first_fault (a ∷ when c (Full l) ∷ elsewhere k ∷ []) in
-        let none : label_fault (l ∷ labels v) ≡ None = ap (λ (ls : List ℕ). label_fault (l ∷ ls)) bare ∙ ap (λ (c : Bool). cond c (Some (Label l)) None) (le-ltb 95 l (omega arith)) in
-        ap (λ (a : Option Fault). F a (full (get_or xs l None)) (find eq xs v)) none ∙ ap (λ (c : Bool). F None c (find eq xs v)) p ∙ ap (λ (k : Option ℕ). F None b k) q
-
-    pub set_full : full (get_or xs l None) ≡ true → set_fault eq labels xs l v ≡ Some (Full l)
-    set_full p = set_faulty true (find eq xs v) p refl
-
-    pub set_elsewhere : (k : ℕ) → full (get_or xs l None) ≡ false → find eq xs v ≡ Some k → set_fault eq labels xs l v ≡ Some (Elsewhere k)
-    set_elsewhere k p q = set_faulty false (Some k) p q
-
-    pub set_free : full (get_or xs l None) ≡ false → find eq xs v ≡ None → set_fault eq labels xs l v ≡ None
-    set_free p q = set_faulty false None p q
-
-  -- a value that was nowhere is set
+-- a value that was nowhere is set
+module _ {V : Type 0} (eq : V → V → Bool) where
   pub proper_set : (decides : (a b : V) → Decides (eq a b) (a ≡ b)) (m : Meaning V) → Proper m → (l : ℕ) (v : V) → l < 96 → find eq m.places v ≡ None → Proper (put m l (Some v))
   proper_set decides m p l v h new =
       let xs = m.places in
@@ -73,19 +52,12 @@ proper_clear {V} m p l h =
     (cases_eq i l) in
     record { size = length-set xs l None ∙ p.size; single = λ i j w e f. p.single i j w (reads i w e) (reads j w f); counted = p.counted }
 
-pub cleared_past : {V : Type 0} (xs : List (Option V)) (l : ℕ) → 96 ≤ l → cleared xs l ≡ Err (Label l)
-cleared_past {V} xs l h = ap (λ (b : Bool). cond b (Err (Label l)) (taken l (get_or xs l None))) (lt-ltb 95 l (omega arith))
-
 pub cleared_within : {V : Type 0} (xs : List (Option V)) (l : ℕ) (o : Option V) → l < 96 → o ≡ get_or xs l None → cleared xs l ≡ taken l o
 cleared_within {V} xs l o h e = ap (λ (b : Bool). cond b (Err (Label l)) (taken l (get_or xs l None))) (le-ltb 95 l (omega arith)) ∙ ap (taken l) (sym e)
 
 -- an empty place stays as it is when it is emptied
 pub kept_empty : {V : Type 0} (m : Meaning V) (l : ℕ) → get_or m.places l None ≡ None → m ≡ put m l None
 kept_empty {V} m l e = ap (λ (xs : List (Option V)). meaning xs m.asked) (sym (ap (λ (o : Option V). set m.places l o) (sym e) ∙ set-get_or m.places l None))
-
--- one question more, in the asked number and in the list
-pub asked_more : (l : List ℕ) (n x : ℕ) → n ≡ length l % 2 ^ 32 → (n + 1) % 2 ^ 32 ≡ length (l ++ x ∷ []) % 2 ^ 32
-asked_more l n x e = ap (λ (k : ℕ). (k + 1) % 2 ^ 32) e ∙ mod-add-mod (length l) (2 ^ 32) 1 ∙ ap (λ (k : ℕ). k % 2 ^ 32) (sym (length-append l (x ∷ [])))
 
 -- what lets a value that names no label be set, and what lets a place be cleared
 pub set_allowed : {V : Type 0} (l : ℕ) (held : Option V) (found : Option ℕ) → set_refusal l [] held found ≡ None → (l < 96) × (held ≡ None) × (found ≡ None)
@@ -126,10 +98,3 @@ unless_refused (Some g) a e h x y = refl
 pub not_refused : {A : Type 0} (f : Option Fault) (a b : A) → answer f a ≡ Ok b → f ≡ None
 not_refused None a b h = refl
 not_refused (Some g) a b h = absurd (cc)
-
-pub unless_done : {A B : Type 0} (f : Option Fault) (a b : A) → answer f a ≡ Ok b → (x y : B) → unless f x y ≡ y
-unless_done None a b h x y = refl
-unless_done (Some g) a b h x y = absurd (let z : ◌≡◌ {A = ℕ} 0 1 = cc in omega arith)
-
-pub short_list : {A : Type 0} (n : ℕ) (a : A) → n < 96 → answer (list_fault n) a ≡ Err (Short n)
-short_list n a h = ap (λ (b : Bool). answer (when b (Short n)) a) (lt-ltb n 96 h)

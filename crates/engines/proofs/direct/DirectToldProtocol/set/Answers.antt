@@ -65,6 +65,6 @@ returns-clause-held c m h =
       names = subst (λ (xs : List (Option Protocol)). Names xs n.any n.numbered) (sym c.point.ensures.held)
           (names_set s.held s.any s.numbered h.names n.any n.numbered l v size free new c.point.ensures.size
           (λ r f. c.point.ensures.label h.names.numbers r f ∙ ap (λ (w : ProtocolRow). cond (same_protocol r w) (Some l) (kept_label s.any s.numbered r)) c.row-row.ensures));
-      proper = proper_set eq labels protocol_decides m h.proper l v allowed.0 nowhere;
+      proper = proper_set eq protocol_decides m h.proper l v allowed.0 nowhere;
       counted = c.point.ensures.asked ∙ h.counted;
     }

@@ -39,7 +39,7 @@ returns-clause-held g c m h =
     subst (λ (o : Option Fault). Shows plain g.T.Rows.items (record s { table = c.put.new.self; used = c.fill.new.self }) (unless o m (put m l (Some v)))) (sym none ∙ told) record {
       lies = subst (λ (f : List Bool). Lies plain new f (set m.places l (Some v))) (sym c.fill.ensures)
           (subst (λ (r : List g.row.R.Denot). Lies plain r (set s.used.full l true) (set m.places l (Some v))) (sym rows) (lies_set plain old s.used.full m.places h.lies s.used.idle.size l v allowed.0));
-      proper = proper_set eq g.V.Key.labels g.met.V.Key.laws.decides m h.proper l v allowed.0 (sym found ∙ allowed.2);
+      proper = proper_set eq g.met.V.Key.laws.decides m h.proper l v allowed.0 (sym found ∙ allowed.2);
       counted = h.counted;
     }
 
