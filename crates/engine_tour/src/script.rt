@@ -2,6 +2,7 @@
 use engine_runs::calls::{Answer, Call};
 use fields::kinds::Kind;
 use fields::protocols::{Protocol, ProtocolRow};
+use parts::marks::PLACES;
 use std::fmt;
 
 // One of: empty, set PLACE NUMBER, set PLACE any, clear PLACE, match NUMBER.
@@ -49,7 +50,11 @@ impl fmt::Display for Shown {
     }
 }
 
-fn write_labels<W: fmt::Write>(f: &mut fmt::Formatter<W>, count: usize, list: &[u8]) -> fmt::Result {
+fn write_labels<W: fmt::Write>(
+    f: &mut fmt::Formatter<W>,
+    count: usize,
+    list: &[u8; PLACES],
+) -> fmt::Result {
     write!(f, "matched {count}:")?;
     for label in list.iter().take(count) {
         write!(f, " {label}")?;

@@ -50,7 +50,7 @@ impl Direct {
 
     // The label kept for a value.
     fn label(&self, row: ProtocolRow) -> Option<u8>
-        ensures { result ≡ kept_label self.now.any self.now.numbered row }
+        ensures { result ≡ kept_label self.now row }
     {
         match row {
             ProtocolRow::Any => self.any,
@@ -70,7 +70,7 @@ impl Direct {
         ensures held { self.new.held ≡ self.old.held }
         ensures asked { self.new.asked ≡ self.old.asked }
         ensures size { length self.new.numbered ≡ length self.old.numbered }
-        ensures label { length self.old.numbered ≡ 256 → (r : ProtocolRow) → fits_byte r ≡ true → kept_label self.new.any self.new.numbered r ≡ (if same_protocol r row then label else kept_label self.old.any self.old.numbered r) }
+        ensures label { length self.old.numbered ≡ 256 → (r : ProtocolRow) → fits_byte r ≡ true → kept_label self.new r ≡ (if same_protocol r row then label else kept_label self.old r) }
     {
         match row {
             ProtocolRow::Any => self.any = label,
@@ -82,7 +82,7 @@ impl Direct {
 impl Told<Protocol> for Direct {
     type Asked = u32;
 
-    ghost shows = { λ s m. Reached s.held s.any s.numbered s.asked m };
+    ghost shows = { Reached };
 
     ghost agrees = { λ s l. s.asked ≡ length l % 2 ^ 32 };
 
