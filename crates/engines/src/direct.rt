@@ -17,7 +17,8 @@ use parts::told::Told;
 // How many protocol numbers there are.
 const NUMBERS: usize = 256;
 
-// The values at their places, and the label of each: of any, and of each number.
+// The values at their places, and the label of each: of any, and of each number. Both ways are kept, so that clear reads
+// the value at a place, and a match the places of a number, without a search.
 #[derive(Drop)]
 pub struct Direct {
     held: [Option<Protocol>; PLACES],

@@ -11,9 +11,10 @@ pub trait Rows<R: Copy> {
     // all rows, also those past the 96th
     ghost items: { Self → List R };
 
+    ghost wide: { (s : Self) → 96 ≤ length (items s) };
+
     fn rows(&self) -> &[R]
-        ensures value { result.now ≡ items self.now }
-        ensures wide { 96 ≤ length result.now };
+        ensures { result.now ≡ items self.now };
 
     fn put(&mut self, place: usize, row: R)
         ensures { items self.new ≡ slice_set (items self.old) place row };
@@ -45,6 +46,8 @@ impl<'a, R: Copy> RowTable<'a, R> {
 
 impl<'a, R: Copy> Rows<R> for RowTable<'a, R> {
     ghost items = { λ s. s.rows.now };
+
+    ghost wide = { λ s. s.wide };
 
     fn rows(&self) -> &[R] {
         self.rows

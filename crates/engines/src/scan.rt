@@ -42,6 +42,7 @@ impl<R: Copy, T: Rows<R>> Scan<R, T> {
         }
     }
 
+    // A method of each engine: one of `Told` would leave open at a scan engine's call for which kind of value it is meant.
     pub fn asked_number(&self) -> u32
         ensures { result ≡ self.now.asked }
     {
@@ -49,6 +50,8 @@ impl<R: Copy, T: Rows<R>> Scan<R, T> {
     }
 }
 
+// The trait's clauses stand here again, since a method that promises more than its trait, as of the rows past the 96th,
+// has its own clauses in place of the trait's.
 impl<R: Copy, T: Rows<R>, V: Kind<Row = R>> Told<V> for Scan<R, T> {
     type Asked = u32;
 
@@ -63,8 +66,6 @@ impl<R: Copy, T: Rows<R>, V: Kind<Row = R>> Told<V> for Scan<R, T> {
         ensures asked { self.new.asked ≡ 0 }
         ensures rest { RestKept T.Rows.items self.old self.new }
     {
-        // a table's own contract tells that it is wide enough
-        let _ = self.table.rows();
         self.used = Used::none();
         self.asked = 0;
     }

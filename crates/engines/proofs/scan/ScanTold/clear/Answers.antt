@@ -11,7 +11,7 @@ pub returns-in_err-value-clause-held : goal.returns-in_err-value-clause-held
 returns-in_err-value-clause-held g c m h =
     let s = c.args.self.now in
     let l = c.args.place in
-    let there : c.held.result ≡ get_or m.places l None = c.held.ensures m.places (subst (λ (rows : List g.row.R.Denot). Lies g.V.Kind.plain rows s.used.full m.places) (sym c.rows.ensures.value) h.lies) in
+    let there : c.held.result ≡ get_or m.places l None = c.held.ensures m.places (subst (λ (rows : List g.row.R.Denot). Lies g.V.Kind.plain rows s.used.full m.places) (sym c.rows.ensures) h.lies) in
     let refused : cleared m.places l ≡ Err c.in_err-value.field-0.0 = ap (taken_from l) (sym there) ∙ sym c.check_clear.ensures ∙ c.in_err-value.was in
     subst (Shows g.V.Kind.plain g.T.Rows.items s) (clear_refused m l c.in_err-value.field-0.0 h.proper.size refused) h
 

@@ -16,7 +16,7 @@ returns-in_err-check_set-clause-held g c m h =
     let l = c.args.place in
     let v = c.args.value in
     let fault = set_fault g.V.Key.eq g.V.Key.labels m.places l v in
-    let lies = subst (λ (rows : List g.row.R.Denot). Lies g.V.Kind.plain rows s.used.full m.places) (sym c.rows-rows.ensures.value) h.lies in
+    let lies = subst (λ (rows : List g.row.R.Denot). Lies g.V.Kind.plain rows s.used.full m.places) (sym c.rows-rows.ensures) h.lies in
     let told : set_refusal l [] c.held-held.result c.place_of.result ≡ fault = set_told g.V.Key.eq g.V.Key.labels m.places l v (g.met.V.Kind.unlabelled v) c.held-held.result c.place_of.result (c.held-held.ensures m.places lies) (c.place_of.ensures m.places lies) in
     let refused : answer fault tt ≡ Err c.in_err-check_set.field-0.0 = ap (λ (o : Option Fault). answer o tt) (sym told) ∙ sym c.check_set.ensures ∙ c.in_err-check_set.was in
     subst (Shows g.V.Kind.plain g.T.Rows.items s) (sym (unless_refused fault tt c.in_err-check_set.field-0.0 refused m (put m l (Some v)))) h
@@ -30,7 +30,7 @@ returns-clause-held g c m h =
     let eq = g.V.Key.eq in
     let old = g.T.Rows.items s.table in
     let new = g.T.Rows.items c.put.new.self in
-    let lies = subst (λ (rows : List g.row.R.Denot). Lies plain rows s.used.full m.places) (sym c.rows-rows.ensures.value) h.lies in
+    let lies = subst (λ (rows : List g.row.R.Denot). Lies plain rows s.used.full m.places) (sym c.rows-rows.ensures) h.lies in
     let found = c.place_of.ensures m.places lies in
     let none = not_refused (set_refusal l [] c.held-held.result c.place_of.result) tt tt (sym c.check_set.ensures ∙ c.in_ok-check_set.was) in
     let told = set_told eq g.V.Key.labels m.places l v (g.met.V.Kind.unlabelled v) c.held-held.result c.place_of.result (c.held-held.ensures m.places lies) found in
