@@ -27,24 +27,18 @@ told s m shown l v there known t k = set_told eq labels m.places l v refl there 
 
 pub returns-in_err-check_set-clause-result : goal.returns-in_err-check_set-clause-result
 returns-in_err-check_set-clause-result c m h =
-    let s = c.args.self.now in
-    let t = told s m h c.args.place c.args.value c.entry_at.result c.label.result c.entry_at.ensures (c.label.ensures ∙ ap (kept_label s) c.row-row.ensures) in
+    let t = told c.args.self.now m h c.args.place c.args.value c.entry_at.result c.label.result c.entry_at.ensures (c.label.ensures ∙ ap (kept_label c.args.self.now) c.row-row.ensures) in
     search (rules, t)
 
 pub returns-in_err-check_set-clause-held : goal.returns-in_err-check_set-clause-held
 returns-in_err-check_set-clause-held c m h =
-    let s = c.args.self.now in
-    let l = c.args.place in
-    let v = c.args.value in
-    let t = told s m h l v c.entry_at.result c.label.result c.entry_at.ensures (c.label.ensures ∙ ap (kept_label s) c.row-row.ensures) in
-    let refused = ap (λ (o : Option Fault). answer o tt) (sym t) ∙ sym c.check_set.ensures ∙ c.in_err-check_set.was in
-    subst (Reached s) (sym (unless_refused (set_fault eq labels m.places l v) tt c.in_err-check_set.field-0.0 refused m (put m l (Some v)))) h
+    let t = told c.args.self.now m h c.args.place c.args.value c.entry_at.result c.label.result c.entry_at.ensures (c.label.ensures ∙ ap (kept_label c.args.self.now) c.row-row.ensures) in
+    subst (Reached c.args.self.now) (sym (unless_refused _ tt _ (ap (λ (o : Option Fault). answer o tt) (sym t) ∙ sym c.check_set.ensures ∙ c.in_err-check_set.was) m _)) h
 
 pub returns-clause-result : goal.returns-clause-result
 returns-clause-result c m h =
-    let s = c.args.self.now in
-    let t = told s m h c.args.place c.args.value c.entry_at.result c.label.result c.entry_at.ensures (c.label.ensures ∙ ap (kept_label s) c.row-row.ensures) in
-    sym c.in_ok-check_set.was ∙ c.check_set.ensures ∙ ap (λ (o : Option Fault). answer o tt) t
+    let t = told c.args.self.now m h c.args.place c.args.value c.entry_at.result c.label.result c.entry_at.ensures (c.label.ensures ∙ ap (kept_label c.args.self.now) c.row-row.ensures) in
+    search (rules, t)
 
 pub returns-clause-held : goal.returns-clause-held
 returns-clause-held c m h =

@@ -12,14 +12,9 @@ use Rattle.engines.proofs.scan.ScanTold.set.Goals as goal
 
 pub returns-in_err-check_set-clause-held : goal.returns-in_err-check_set-clause-held
 returns-in_err-check_set-clause-held g c m h =
-    let s = c.args.self.now in
-    let l = c.args.place in
-    let v = c.args.value in
-    let fault = set_fault g.V.Key.eq g.V.Key.labels m.places l v in
-    let lies = subst (λ (rows : List g.row.R.Denot). Lies g.V.Kind.plain rows s.used.full m.places) (sym c.rows-rows.ensures) h.lies in
-    let told : set_refusal l [] c.held-held.result c.place_of.result ≡ fault = set_told g.V.Key.eq g.V.Key.labels m.places l v (g.met.V.Kind.unlabelled v) c.held-held.result c.place_of.result (c.held-held.ensures m.places lies) (c.place_of.ensures m.places lies) in
-    let refused : answer fault tt ≡ Err c.in_err-check_set.field-0.0 = ap (λ (o : Option Fault). answer o tt) (sym told) ∙ sym c.check_set.ensures ∙ c.in_err-check_set.was in
-    subst (Shows g.V.Kind.plain g.T.Rows.items s) (sym (unless_refused fault tt c.in_err-check_set.field-0.0 refused m (put m l (Some v)))) h
+    let lies = subst (λ (rows : List g.row.R.Denot). Lies g.V.Kind.plain rows c.args.self.now.used.full m.places) (sym c.rows-rows.ensures) h.lies in
+    let same = set_told g.V.Key.eq g.V.Key.labels m.places c.args.place c.args.value (g.met.V.Kind.unlabelled c.args.value) c.held-held.result c.place_of.result (c.held-held.ensures m.places lies) (c.place_of.ensures m.places lies) in
+    subst (Shows g.V.Kind.plain g.T.Rows.items c.args.self.now) (sym (unless_refused _ tt _ (ap (λ (o : Option Fault). answer o tt) (sym same) ∙ sym c.check_set.ensures ∙ c.in_err-check_set.was) m _)) h
 
 pub returns-clause-held : goal.returns-clause-held
 returns-clause-held g c m h =
