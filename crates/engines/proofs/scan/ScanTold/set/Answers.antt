@@ -1,8 +1,8 @@
-use Rattle.std.proofs.Common.{◌≡◌, Bool, true, List, [], drop, set, Some, Err, Option, sym, ap, ◌∙◌, subst}
+use Rattle.std.proofs.Common.{◌≡◌, Bool, true, List, [], drop, set, Some, Option, sym, ap, ◌∙◌, subst}
 use Rattle.std.proofs.lemmas.List.{drop-set-lt}
 use Rattle.fields.specs.declared.faults.Fault.{Fault}
 use Rattle.fields.specs.Faults.{answer, unless}
-use Rattle.parts.specs.Meaning.{put, set_fault}
+use Rattle.parts.specs.Meaning.{put}
 use Rattle.parts.specs.Checks.{set_refusal}
 use Rattle.engines.specs.Tables.{Lies}
 use Rattle.engines.specs.Scans.{Shows}
