@@ -3,7 +3,7 @@ use fields::faults::Fault;
 use parts::marks::PLACES;
 
 // A call on an engine of one kind of value.
-#[derive(Clone, Copy)]
+#[derive(Clone, Copy, PartialEq, Eq, Debug)]
 pub enum Call<V> {
     Empty,
     Set(u8, V),
@@ -12,7 +12,7 @@ pub enum Call<V> {
 }
 
 // What a call answered; of a match also the list of labels that was written, from a list of zeros.
-#[derive(Clone, Copy)]
+#[derive(Clone, Copy, PartialEq, Eq, Debug)]
 pub enum Answer<V> {
     Emptied,
     Set(Result<(), Fault>),

@@ -46,6 +46,7 @@ pub fn run<V: Kind, E: Engine<V>>(
 {
     engine.empty();
     let mut answers = Vec::new(heap);
+    // a loop: where memory gives out, nothing would be known of an engine that the closure of a chain changes
     for call in calls {
         answers.push(perform(engine, *call))?;
     }

@@ -4,16 +4,17 @@ ghost use Rattle.fields.specs.Faults.{answer, answer_by};
 ghost use Rattle.parts.specs.Meaning.{list_fault};
 
 use fields::faults::Fault;
-use parts::marks::PLACES;
+use parts::checks::check_room;
 
 // What an engine wants of a table: at least 96 rows, to be read and put.
 pub trait Rows<R: Copy> {
     // all rows, also those past the 96th
     ghost items: { Self → List R };
 
+    ghost wide: { (s : Self) → 96 ≤ length (items s) };
+
     fn rows(&self) -> &[R]
-        ensures value { result.now ≡ items self.now }
-        ensures wide { 96 ≤ length result.now };
+        ensures { result.now ≡ items self.now };
 
     fn put(&mut self, place: usize, row: R)
         ensures { items self.new ≡ slice_set (items self.old) place row };
@@ -30,10 +31,7 @@ pub struct RowTable<'a, R: Copy> {
 pub fn check_rows<R: Copy>(rows: &[R]) -> Result<(), Fault>
     ensures { result ≡ answer (list_fault (length rows.now)) tt }
 {
-    if rows.len() < PLACES {
-        return Err(Fault::Short(rows.len() as u8));
-    }
-    Ok(())
+    check_room(rows)
 }
 
 impl<'a, R: Copy> RowTable<'a, R> {
@@ -41,23 +39,15 @@ impl<'a, R: Copy> RowTable<'a, R> {
     pub fn form(rows: &'a mut [R]) -> Result<RowTable<'a, R>, Fault>
         ensures { answer_by (λ t. t.rows.now) result ≡ answer (list_fault (length rows.old)) rows.old }
     {
-        if let Err(fault) = check_rows(rows) {
-            return Err(fault);
-        }
+        check_rows(rows)?;
         Ok(RowTable { rows })
-    }
-
-    // The same for rows that were checked, where a table cannot be taken out of a Result.
-    pub fn checked(rows: &'a mut [R]) -> RowTable<'a, R>
-        requires { 96 ≤ length rows.old }
-        ensures { result.rows.now ≡ rows.old }
-    {
-        RowTable { rows }
     }
 }
 
 impl<'a, R: Copy> Rows<R> for RowTable<'a, R> {
     ghost items = { λ s. s.rows.now };
+
+    ghost wide = { λ s. s.wide };
 
     fn rows(&self) -> &[R] {
         self.rows

@@ -13,7 +13,8 @@ use crate::searches::{held, place_of, satisfied_marks};
 use crate::used::Used;
 use fields::faults::Fault;
 use fields::kinds::Kind;
-use parts::marks::{PLACES, write_marked};
+use parts::checks::{check_clear, check_set};
+use parts::marks::write_marked;
 use parts::told::Told;
 use std::marker::PhantomData;
 
@@ -41,6 +42,7 @@ impl<R: Copy, T: Rows<R>> Scan<R, T> {
         }
     }
 
+    // A method of each engine: one of `Told` would leave open at a scan engine's call for which kind of value it is meant.
     pub fn asked_number(&self) -> u32
         ensures { result ≡ self.now.asked }
     {
@@ -48,6 +50,8 @@ impl<R: Copy, T: Rows<R>> Scan<R, T> {
     }
 }
 
+// The trait's clauses stand here again, since a method that promises more than its trait, as of the rows past the 96th,
+// has its own clauses in place of the trait's.
 impl<R: Copy, T: Rows<R>, V: Kind<Row = R>> Told<V> for Scan<R, T> {
     type Asked = u32;
 
@@ -62,8 +66,6 @@ impl<R: Copy, T: Rows<R>, V: Kind<Row = R>> Told<V> for Scan<R, T> {
         ensures asked { self.new.asked ≡ 0 }
         ensures rest { RestKept T.Rows.items self.old self.new }
     {
-        // a table's own contract tells that it is wide enough
-        let _ = self.table.rows();
         self.used = Used::none();
         self.asked = 0;
     }
@@ -76,19 +78,11 @@ impl<R: Copy, T: Rows<R>, V: Kind<Row = R>> Told<V> for Scan<R, T> {
         ensures rest { RestKept T.Rows.items self.old self.new }
     {
         let at = place as usize;
-        if at >= PLACES {
-            return Err(Fault::Label(place));
-        }
-        let mut used = self.used;
-        if used.is_full(at) {
-            return Err(Fault::Full(place));
-        }
-        if let Some(label) = place_of(self.table.rows(), &used, value) {
-            return Err(Fault::Elsewhere(label));
-        }
+        let rows = self.table.rows();
+        let held = held::<R, V>(rows, &self.used, at);
+        check_set(place, &[], held, place_of(rows, &self.used, value))?;
         self.table.put(at, value.row());
-        used.fill(at);
-        self.used = used;
+        self.used.fill(at);
         Ok(())
     }
 
@@ -100,15 +94,8 @@ impl<R: Copy, T: Rows<R>, V: Kind<Row = R>> Told<V> for Scan<R, T> {
         ensures rest { RestKept T.Rows.items self.old self.new }
     {
         let at = place as usize;
-        if at >= PLACES {
-            return Err(Fault::Label(place));
-        }
-        let mut used = self.used;
-        let Some(value) = held::<R, V>(self.table.rows(), &used, at) else {
-            return Err(Fault::Vacant(place));
-        };
-        used.free(at);
-        self.used = used;
+        let value = check_clear(place, held::<R, V>(self.table.rows(), &self.used, at))?;
+        self.used.free(at);
         Ok(value)
     }
 }
@@ -124,8 +111,7 @@ impl<R: Copy, T: Rows<R>, V: Kind<Row = R>> Engine<V> for Scan<R, T> {
         ensures few { IfOk result (λ n. n ≤ 96) }
         ensures rest { RestKept T.Rows.items self.old self.new }
     {
-        let used = self.used;
-        let marks = satisfied_marks::<R, V>(self.table.rows(), &used, number);
+        let marks = satisfied_marks::<R, V>(self.table.rows(), &self.used, number);
         let count = write_marked(&marks, list)?;
         self.asked = self.asked.wrapping_add(1);
         Ok(count)
