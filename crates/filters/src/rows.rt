@@ -34,6 +34,31 @@ pub struct FilterRow {
     pub flow: u16,
 }
 
+// What stands in a place of a table that is not in use: no filter's row, as no filter has the identifier 0.
+impl Default for FilterRow {
+    ghost is_default = { λ row. row.identifier ≡ 0 };
+
+    fn default() -> FilterRow {
+        let prefix = PrefixRow {
+            address: 0,
+            length: 0,
+        };
+        let range = RangeRow { low: 0, high: 0 };
+        FilterRow {
+            identifier: 0,
+            source: prefix,
+            destination: prefix,
+            source_port: range,
+            destination_port: range,
+            protocol: ProtocolRow::Any,
+            flags: FlagRow { mask: 0, wanted: 0 },
+            tag: 0,
+            class: Class::Exclusive,
+            flow: 0,
+        }
+    }
+}
+
 #[derive(Clone, Copy)]
 pub struct Header {
     pub source: u32,
