@@ -4,6 +4,9 @@ use Rattle.std.proofs.ByRecursion.{all_kept_by, All-take}
 use Rattle.std.proofs.lemmas.Bool.{both_ways}
 use Rattle.filters.specs.declared.rows.FilterRow.{FilterRow}
 use Rattle.filters.specs.declared.rows.Header.{Header}
+use Rattle.filters.specs.declared.calls.Call.{Call}
+use Rattle.filters.specs.Standing.{standing}
+use Rattle.filter_laws.proofs.Ordering.{ordered_standing}
 use Rattle.filters.specs.Counting.{Among, Pairwise, how_many}
 use Rattle.filters.specs.Filters.{ranks_ahead}
 use Rattle.filters.specs.Scans.{first, wins, joins, scan}
@@ -124,3 +127,7 @@ scans fs h r ranked =
           (λ i. ahead_asymmetric f g (parts_ranked f g r kept (kept_ranked (joins h) fs ranked) m i))
           (either_part g r kept (kept_has (joins h) g fs k pg));
     }
+
+-- the same of what stands after a list of calls
+pub scans_standing : (calls : List Call) (h : Header) (r : ℕ) → Scans (standing calls) h r (scan (standing calls) h r)
+scans_standing calls h r = scans (standing calls) h r (ordered_standing calls).ranked
