@@ -64,6 +64,7 @@ pub(crate) fn list_of(rows: &[FilterRow], header: &Header, most: usize, list: &m
     ensures count { result ≡ length (listed rows.now header.now most) }
     ensures list { list.new ≡ written (listed rows.now header.now most) list.old }
 {
+    // Counted by hand: of what is written through an adapter of iter_mut a contract says nothing.
     let mut count = 0;
     for row in rows.iter().filter(|row| may_join(row, header)).take(most) {
         list[count] = row.identifier;

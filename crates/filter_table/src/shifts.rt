@@ -8,17 +8,10 @@ pub use crate::table::CAPACITY;
 pub fn insert_at<R: Copy>(rows: &mut [R; CAPACITY], count: usize, position: usize, row: R)
     ensures { rows.new ≡ opened rows.old count position row }
 {
-    if count >= CAPACITY {
+    if count >= CAPACITY || position > count {
         return;
     }
-    if position > count {
-        return;
-    }
-    let mut k = count;
-    while k > position {
-        rows[k] = rows[k - 1];
-        k -= 1;
-    }
+    rows.copy_within(position..count, position + 1);
     rows[position] = row;
 }
 
@@ -27,15 +20,10 @@ pub fn remove_at<R: Copy>(rows: &mut [R; CAPACITY], count: usize, position: usiz
     ensures value { result ≡ taken rows.old count position }
     ensures rows { rows.new ≡ closed rows.old count position }
 {
-    if count > CAPACITY {
-        return None;
-    }
-    if position >= count {
+    if count > CAPACITY || position >= count {
         return None;
     }
     let row = rows[position];
-    for k in position..count - 1 {
-        rows[k] = rows[k + 1];
-    }
+    rows.copy_within(position + 1..count, position);
     Some(row)
 }
