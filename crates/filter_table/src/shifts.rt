@@ -2,24 +2,16 @@
 ghost use Rattle.std.specs.Prelude.{◌≡◌};
 ghost use Rattle.filter_table.specs.Shifts.{opened, closed, taken};
 
-// How many rows a table has room for.
-pub const CAPACITY: usize = 96;
+pub use crate::table::CAPACITY;
 
 // Puts a row at a position among the first rows, as many as count; nothing is done where there is no such position or no room.
 pub fn insert_at<R: Copy>(rows: &mut [R; CAPACITY], count: usize, position: usize, row: R)
     ensures { rows.new ≡ opened rows.old count position row }
 {
-    if count >= CAPACITY {
+    if count >= CAPACITY || position > count {
         return;
     }
-    if position > count {
-        return;
-    }
-    let mut k = count;
-    while k > position {
-        rows[k] = rows[k - 1];
-        k -= 1;
-    }
+    rows.copy_within(position..count, position + 1);
     rows[position] = row;
 }
 
@@ -28,15 +20,10 @@ pub fn remove_at<R: Copy>(rows: &mut [R; CAPACITY], count: usize, position: usiz
     ensures value { result ≡ taken rows.old count position }
     ensures rows { rows.new ≡ closed rows.old count position }
 {
-    if count > CAPACITY {
-        return None;
-    }
-    if position >= count {
+    if count > CAPACITY || position >= count {
         return None;
     }
     let row = rows[position];
-    for k in position..count - 1 {
-        rows[k] = rows[k + 1];
-    }
+    rows.copy_within(position + 1..count, position);
     Some(row)
 }
