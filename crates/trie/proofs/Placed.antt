@@ -1,5 +1,6 @@
 -- What set, clear and match answer, from the rows.
 use Rattle.std.proofs.Common.{◌≡◌, ℕ, ◌+◌, ◌%◌, ◌^◌, ◌<◌, Bool, true, false, ◌||◌, eqb, ltb, List, [], ◌∷◌, map, length, get_or, replicate, Some, None, Ok, Option, sym, refl, ap, ◌∙◌, arith}
+use Rattle.std.specs.Option.{is_some}
 use Rattle.std.proofs.lemmas.List.{length-map, get_or-map, get_or-replicate, ext_get_or}
 use Rattle.std.proofs.lemmas.Bool.{cond-false, eq-eqb, eqb-true, both_ways}
 use Rattle.fields.specs.declared.faults.Fault.{Fault}
@@ -14,7 +15,7 @@ use Rattle.parts.specs.Marks.{hit}
 use Rattle.trie.specs.Strings.{code, codes}
 use Rattle.trie.specs.Trees.{is, covers, hits}
 use Rattle.trie.specs.Shown.{row_of, rows_of}
-use Rattle.trie.specs.Meant.{rows_at, find_none, find_some, code_held, held_code, some_from}
+use Rattle.trie.specs.Meant.{rows_at, find_none, find_some, code_held, held_code}
 
 abbrev pub equal : Prefix → Prefix → Bool
 equal a b = same_prefix a.row b.row
@@ -43,17 +44,16 @@ module _ (xs : List (Option Prefix)) (l : ℕ) (v : Prefix) (low : ltb 95 l ≡ 
   fault_none e f = vacant_fault e ∙ ap (λ (o : Option ℕ). first_fault (None ∷ None ∷ elsewhere o ∷ [])) f
 
 -- a place is full if its row is
-pub full_from : (rows : List (Option PrefixRow)) (places : List (Option Prefix)) (l : ℕ) (r : PrefixRow) → rows ≡ rows_of places → get_or rows l None ≡ Some r → full (get_or places l None) ≡ true
-full_from rows places l r held e =
-    let q = some_from (get_or places l None) r (sym (rows_at places l) ∙ ap (λ (xs : List (Option PrefixRow)). get_or xs l None) (sym held) ∙ e) in
-    ap full q.1
+full_row : (o : Option Prefix) → full o ≡ is_some (row_of o)
+full_row None = refl
+full_row (Some v) = refl
 
-full_none : (o : Option Prefix) → row_of o ≡ None → full o ≡ false
-full_none None e = refl
-full_none (Some v) e = absurd (let z : ◌≡◌ {A = ℕ} 0 1 = cc in omega arith)
+pub full_from : (rows : List (Option PrefixRow)) (places : List (Option Prefix)) (l : ℕ) → rows ≡ rows_of places → full (get_or places l None) ≡ is_some (get_or rows l None)
+full_from rows places l held = full_row (get_or places l None) ∙ ap is_some (sym (rows_at places l) ∙ ap (λ (xs : List (Option PrefixRow)). get_or xs l None) (sym held))
 
-pub vacant_from : (rows : List (Option PrefixRow)) (places : List (Option Prefix)) (l : ℕ) → rows ≡ rows_of places → get_or rows l None ≡ None → full (get_or places l None) ≡ false
-vacant_from rows places l held e = full_none (get_or places l None) (sym (rows_at places l) ∙ ap (λ (xs : List (Option PrefixRow)). get_or xs l None) (sym held) ∙ e)
+pub vacant : (o : Option PrefixRow) → is_some o ≡ false → o ≡ None
+vacant None e = refl
+vacant (Some r) e = absurd (let z : ◌≡◌ {A = ℕ} 0 1 = cc in omega arith)
 
 -- the label at the end of the walk is where the value is held
 module _ (rows : List (Option PrefixRow)) (v : Prefix) (row : PrefixRow) (own : row ≡ v.row) (o : Option ℕ) (tells : (l : ℕ) → is o l ≡ eqb (codes rows l) (code (Some row))) where

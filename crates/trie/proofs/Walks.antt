@@ -7,42 +7,41 @@ use Rattle.std.proofs.lemmas.List.{get_or-set_same, get_or-set_other}
 use Rattle.std.proofs.lemmas.Bool.{cases_eq, cases_lt, eq-eqb, ne_eqb}
 use Rattle.fields.specs.declared.prefixes.PrefixRow.{PrefixRow}
 use Rattle.parts.specs.Marks.{mark_found}
-use Rattle.trie.specs.declared.nodes.Tree.{Tree}
+use Rattle.trie.specs.declared.nodes.Tables.{Tables}
 use Rattle.trie.specs.Strings.{string, bit_after, code, codes}
 use Rattle.trie.specs.Trees.{at, child, is, Lawful, LawfulAt, Good, Walked, covers, hits}
 use Rattle.trie.specs.Bitstrings.{string_pos, string_none, string_more, string_shift, bit_below, same_length}
 
 -- the walk is at the node of the first bits
-pub record Standing (t : Tree) (a node depth : ℕ) : Type 0 where
+pub record Standing (t : Tables) (a node depth : ℕ) : Type 0 where
   pub good : Good t
   pub for : good.key node ≡ string a depth
 
-pub record Walking (t : Tree) (a : ℕ) (path : List ℕ) (node depth : ℕ) : Type 0 where
+pub record Walking (t : Tables) (a : ℕ) (path : List ℕ) (node depth : ℕ) : Type 0 where
   pub here : Standing t a node depth
   pub passed : (j : ℕ) → j < depth → here.good.key (get_or path j 0) ≡ string a j
 
-pub used : (t : Tree) (a i k : ℕ) (s : Standing t a i k) → 0 < s.good.key i
+pub used : (t : Tables) (a i k : ℕ) (s : Standing t a i k) → 0 < s.good.key i
 used t a i k s = subst (λ (x : ℕ). 0 < x) (sym s.for) (string_pos a k)
 
-pub inside : (t : Tree) (a i k : ℕ) → ∥ Standing t a i k ∥₁ → i < 3073
+pub inside : (t : Tables) (a i k : ℕ) → ∥ Standing t a i k ∥₁ → i < 3073
 inside t a i k e = ∥∥₁_elim e le_prop (λ s. s.good.frame.shape.bound i (used t a i k s))
 
-pub at_root : (t : Tree) (a : ℕ) → a < 2 ^ 32 → Good t → Standing t a 0 0
+pub at_root : (t : Tables) (a : ℕ) → a < 2 ^ 32 → Good t → Standing t a 0 0
 at_root t a la g = record { good = g; for = g.frame.shape.root ∙ sym (string_none a la) }
 
 -- one step down
-pub goes_on : (t : Tree) (a i k c : ℕ) → (s : Standing t a i k) → k < 32 → c ≡ child (at t.nodes i) (bit_after a k) → (c ≡ 0 → ⊥) → s.good.key c ≡ string a (k + 1)
-goes_on t a i k c s few e ne =
+pub goes_on : (t : Tables) (a i k c : ℕ) → (s : Standing t a i k) → k < 32 → child (at t.nodes i) (bit_after a k) ≡ Some c → s.good.key c ≡ string a (k + 1)
+goes_on t a i k c s few e =
     let b = bit_after a k in
-    let pos : 0 < child (at t.nodes i) b = ⊎_elim (λ (h : 0 < child (at t.nodes i) b). h) (λ (h : child (at t.nodes i) b ≤ 0). absurd (ne (omega arith))) (cases_lt 0 (child (at t.nodes i) b)) in
-    ap s.good.key e ∙ s.good.frame.shape.next i b (bit_below a k) (used t a i k s) pos ∙ ap (λ (x : ℕ). 2 * x + b) s.for ∙ sym (string_more a k few)
+    s.good.frame.shape.next i b c (bit_below a k) (used t a i k s) e ∙ ap (λ (x : ℕ). 2 * x + b) s.for ∙ sym (string_more a k few)
 
-abbrev pub stands_on : (t : Tree) (a i k c : ℕ) → Standing t a i k → k < 32 → c ≡ child (at t.nodes i) (bit_after a k) → (c ≡ 0 → ⊥) → Standing t a c (k + 1)
-stands_on t a i k c s few e ne = record { good = s.good; for = goes_on t a i k c s few e ne }
+abbrev pub stands_on : (t : Tables) (a i k c : ℕ) → Standing t a i k → k < 32 → child (at t.nodes i) (bit_after a k) ≡ Some c → Standing t a c (k + 1)
+stands_on t a i k c s few e = record { good = s.good; for = goes_on t a i k c s few e }
 
-pub walks_on : (t : Tree) (a i k c : ℕ) (path : List ℕ) → Walking t a path i k → k < 32 → length path ≡ 32 → c ≡ child (at t.nodes i) (bit_after a k) → (c ≡ 0 → ⊥) → Walking t a (set path k i) c (k + 1)
-walks_on t a i k c path w few size e ne = record {
-  here = stands_on t a i k c w.here few e ne;
+pub walks_on : (t : Tables) (a i k c : ℕ) (path : List ℕ) → Walking t a path i k → k < 32 → length path ≡ 32 → child (at t.nodes i) (bit_after a k) ≡ Some c → Walking t a (set path k i) c (k + 1)
+walks_on t a i k c path w few size e = record {
+  here = stands_on t a i k c w.here few e;
   passed = λ j lj. ⊎_elim
       (λ (q : j ≡ k). ap (λ (x : ℕ). w.here.good.key (get_or (set path k i) x 0)) q ∙ ap w.here.good.key (get_or-set_same path k i 0 (omega arith)) ∙ w.here.for ∙ ap (string a) (sym q))
       (λ (q : j ≡ k → ⊥).
@@ -51,7 +50,7 @@ walks_on t a i k c path w few size e ne = record {
       (cases_eq j k);
 }
 
-pub walked : (t : Tree) (row : PrefixRow) (path : List ℕ) (i k : ℕ) → Walking t row.address path i k → Lawful row → k ≤ row.length → (k < row.length → child (at t.nodes i) (bit_after row.address k) ≡ 0) → Walked t row path i k
+pub walked : (t : Tables) (row : PrefixRow) (path : List ℕ) (i k : ℕ) → Walking t row.address path i k → Lawful row → k ≤ row.length → (k < row.length → child (at t.nodes i) (bit_after row.address k) ≡ None) → Walked t row path i k
 walked t row path i k w lawful within stops = record {
   ends = record { good = w.here.good; lawful = lawful; within = within; for = w.here.for; stops = stops };
   passed = w.passed;
@@ -94,7 +93,7 @@ pub found_length : (ms : List Bool) (o : Option ℕ) → length (mark_found ms o
 found_length ms None = refl
 found_length ms (Some l) = length-set ms l true
 
-pub marks_on : (t : Tree) (a i k l : ℕ) (was : Bool) (ms after : List Bool) → ∥ Standing t a i k ∥₁ → l < length ms → after ≡ mark_found ms (at t.nodes i).label → get_or ms l false ≡ (was || met (codes t.rows l) a k) → get_or after l false ≡ (was || met (codes t.rows l) a (k + 1))
+pub marks_on : (t : Tables) (a i k l : ℕ) (was : Bool) (ms after : List Bool) → ∥ Standing t a i k ∥₁ → l < length ms → after ≡ mark_found ms (at t.nodes i).label → get_or ms l false ≡ (was || met (codes t.rows l) a k) → get_or after l false ≡ (was || met (codes t.rows l) a (k + 1))
 marks_on t a i k l was ms after st lm e q = ∥∥₁_elim st (Bool-set _ _) (λ s.
     ap (λ (x : List Bool). get_or x l false) e
     ∙ found_mark ms (at t.nodes i).label l lm
@@ -113,7 +112,7 @@ met_stops v a j (suc k) h q = ⊎_elim
     (cases_lt j (suc k))
 
 -- where there is no child, no held prefix is met any more
-pub stops : (t : Tree) (a i k l : ℕ) → Standing t a i k → k < 32 → child (at t.nodes i) (bit_after a k) ≡ 0 → met (codes t.rows l) a (k + 1) ≡ met (codes t.rows l) a 33
+pub stops : (t : Tables) (a i k l : ℕ) → Standing t a i k → k < 32 → child (at t.nodes i) (bit_after a k) ≡ None → met (codes t.rows l) a (k + 1) ≡ met (codes t.rows l) a 33
 stops t a i k l s few z = sym (met_stops (codes t.rows l) a (k + 1) 33 (omega arith) (λ m p q e.
     s.good.frame.named.reached l i (bit_after a k) (m - (k + 1)) (used t a i k s) (bit_below a k) z
     (ap (λ (x : ℕ). x / 2 ^ (m - (k + 1))) e ∙ string_shift a (k + 1) m (omega arith) (omega arith) ∙ string_more a k few ∙ ap (λ (x : ℕ). 2 * x + bit_after a k) (sym s.for))))
@@ -142,5 +141,5 @@ met_covers a (Some p) la w =
     ∙ ap (λ (x : Bool). x || eqb v (string a n)) (met_before v a n (λ m l e. let z : n ≡ m = same m (omega arith) e in omega arith))
     ∙ same_rest (2 ^ n) (p.address / 2 ^ (32 - n)) (a / 2 ^ (32 - n))
 
-pub all_met : (t : Tree) (a l : ℕ) (was : Bool) → Good t → a < 2 ^ 32 → (was || met (codes t.rows l) a 33) ≡ (was || hits t.rows a l)
+pub all_met : (t : Tables) (a l : ℕ) (was : Bool) → Good t → a < 2 ^ 32 → (was || met (codes t.rows l) a 33) ≡ (was || hits t.rows a l)
 all_met t a l was g la = ap (λ (x : Bool). was || x) (met_covers a (get_or t.rows l None) la (g.frame.lawful l))

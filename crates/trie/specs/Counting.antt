@@ -123,6 +123,28 @@ among_either v (x ∷ xs) ys h = ⊎_elim
     (λ (r : Among v (xs ++ ys)). ⊎_elim (λ (p : Among v xs). inl (inr p)) (λ (q : Among v ys). inr q) (among_either v xs ys r))
     h
 
+-- one more at the end
+pub among_end : (v x : ℕ) (xs : List ℕ) → Among v (xs ++ x ∷ []) → Among v xs ⊎ (v ≡ x)
+among_end v x xs h = ⊎_elim (λ (p : Among v xs). inl p) (λ (q : Among v (x ∷ [])). inr (⊎_elim (λ (e : v ≡ x). e) (λ (n : ⊥). absurd n) q)) (among_either v xs (x ∷ []) h)
+
+pub among_front : (v x : ℕ) (xs : List ℕ) → Among v xs → Among v (xs ++ x ∷ [])
+among_front v x xs = among_left v xs (x ∷ [])
+
+pub among_last : (x : ℕ) (xs : List ℕ) → Among x (xs ++ x ∷ [])
+among_last x xs = among_right x xs (x ∷ []) (inl refl)
+
+pub distinct_more : (x : ℕ) (xs : List ℕ) → Distinct xs → (Among x xs → ⊥) → Distinct (xs ++ x ∷ [])
+distinct_more x [] d new = ((λ h. h), tt)
+distinct_more x (y ∷ ys) d new = ((λ h. ⊎_elim (λ (r : Among y ys). d.0 r) (λ (e : y ≡ x). new (inl (sym e))) (among_end y x ys h)), distinct_more x ys d.1 (λ r. new (inr r)))
+
+pub distinct_front : (x : ℕ) (xs : List ℕ) → Distinct (xs ++ x ∷ []) → Distinct xs × (Among x xs → ⊥)
+distinct_front x [] d = (tt, λ h. h)
+distinct_front x (y ∷ ys) d =
+    let r = distinct_front x ys d.1 in (
+      ((λ h. d.0 (among_front y x ys h)), r.0),
+      (λ h. ⊎_elim (λ (e : x ≡ y). d.0 (subst (λ (z : ℕ). Among z (ys ++ x ∷ [])) e (among_last x ys))) (λ (q : Among x ys). r.1 q) h),
+    )
+
 pub begins_among : (rows : List (Option PrefixRow)) (v l : ℕ) → Among v (beginnings (slice_index_or rows l None)) → Among v (all_beginnings rows)
 begins_among [] v l h = absurd h
 begins_among (o ∷ os) v zero h = among_left v (beginnings o) (all_beginnings os) h

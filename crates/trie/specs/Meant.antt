@@ -8,7 +8,7 @@ use Rattle.std.proofs.lemmas.Bool.{cases_Bool, cond-true, cond-false}
 use Rattle.fields.specs.declared.prefixes.Prefix.{Prefix}
 use Rattle.fields.specs.declared.prefixes.PrefixRow.{PrefixRow}
 use Rattle.parts.specs.Meaning.{at, find_from}
-use Rattle.trie.specs.declared.nodes.Tree.{Tree}
+use Rattle.trie.specs.declared.nodes.Tables.{Tables}
 use Rattle.trie.specs.Strings.{code, codes, beginnings, all_beginnings, different, row_count}
 use Rattle.trie.specs.Trees.{Lawful, LawfulAt, Good}
 use Rattle.trie.specs.Shown.{row_of, rows_of}
@@ -90,10 +90,10 @@ module _ (rows : List (Option PrefixRow)) (places : List (Option Prefix)) (held 
       value_from (slice_index_or places l None) v
       (same_code (row_of (slice_index_or places l None)) v.row (lawful_of (slice_index_or places l None)) (lawful_value v) (sym (ap (λ (xs : List (Option PrefixRow)). codes xs l) held ∙ ap code (rows_at places l)) ∙ e))
 
-pub size_from : (t : Tree) (places : List (Option Prefix)) → ∥ Good t ∥₁ → t.rows ≡ rows_of places → length places ≡ 96
+pub size_from : (t : Tables) (places : List (Option Prefix)) → ∥ Good t ∥₁ → t.rows ≡ rows_of places → length places ≡ 96
 size_from t places g held = ∥∥₁_elim g (ℕ_set _ _) (λ q. sym (length-map places row_of) ∙ ap length (sym held) ∙ q.frame.size)
 
-pub single_from : (t : Tree) (places : List (Option Prefix)) → ∥ Good t ∥₁ → t.rows ≡ rows_of places → (i j : ℕ) (v : Prefix) → slice_index_or places i None ≡ Some v → slice_index_or places j None ≡ Some v → i ≡ j
+pub single_from : (t : Tables) (places : List (Option Prefix)) → ∥ Good t ∥₁ → t.rows ≡ rows_of places → (i j : ℕ) (v : Prefix) → slice_index_or places i None ≡ Some v → slice_index_or places j None ≡ Some v → i ≡ j
 single_from t places g held i j v p q = ∥∥₁_elim g (ℕ_set _ _) (λ w.
     let a = code_held t.rows places held v i p in
     let b = code_held t.rows places held v j q in

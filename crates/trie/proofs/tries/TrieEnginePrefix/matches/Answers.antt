@@ -15,13 +15,13 @@ use Rattle.trie.proofs.tries.TrieEnginePrefix.matches.Goals as goal
 
 pub returns : goal.returns
 returns c =
-    let t = c.args.self.now.tree in
+    let t = c.args.self.now.tree.tables in
     let a = c.args.number in
     let old = c.args.list.now in
     let ms = c.mark_path.new.marks in
     let size : length ms ≡ 96 = search rules in
     let r = answered (list_fault (length old)) (length (marked ms)) c.in_ok-count.count (sym c.in_ok-count.was ∙ c.write_marked.ensures.result) in
-    let found : (m : Meaning Prefix) → Shown t.rows c.args.self.now.asked m → marked ms ≡ labels_of (λ v. prefix_takes v.row a) m.places = λ m s. ap marked (marks_from t.rows m.places a ms s.held (size_from t m.places c.args.self.now.sound s.held) size c.mark_path.ensures) in
+    let found : (m : Meaning Prefix) → Shown t.rows c.args.self.now.asked m → marked ms ≡ labels_of (λ v. prefix_takes v.row a) m.places = λ m s. ap marked (marks_from t.rows m.places a ms s.held (size_from t m.places c.args.self.now.tree.sound s.held) size c.mark_path.ensures) in
     record {
       result = λ m s. sym c.in_ok-count.was ∙ c.write_marked.ensures.result ∙ ap (λ (ls : List ℕ). answer (list_fault (length old)) (length ls)) (found m s);
       written = λ m s. c.write_marked.ensures.written ∙ ap (λ (ls : List ℕ). unless (list_fault (length old)) old (over_start ls old)) (found m s);

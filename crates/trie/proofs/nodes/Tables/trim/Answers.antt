@@ -2,7 +2,7 @@ use Rattle.std.proofs.Common.{◌≡◌, subst, arith}
 use mathlib.Core.Logic.{∥∥₁_map}
 use Rattle.trie.specs.Trees.{Trimming}
 use Rattle.trie.proofs.Trimmed.{trimmed}
-use Rattle.trie.proofs.nodes.Tree.trim.Goals as goal
+use Rattle.trie.proofs.nodes.Tables.trim.Goals as goal
 
 pub returns : goal.returns
 returns c =
