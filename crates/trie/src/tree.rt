@@ -5,6 +5,7 @@ ghost use Rattle.trie.specs.Trees.{Good};
 use crate::nodes::{BELOW_ROOT, NODES, Node, Tables};
 use arrayvec::ArrayVec;
 use fields::prefixes::PrefixRow;
+use parts::checks::entry_at;
 use parts::marks::PLACES;
 
 // Just the nodes that some held prefix needs are in use.
@@ -37,10 +38,9 @@ impl Tree {
 
     // The prefix that a place holds.
     pub fn row(&self, place: u8) -> Option<PrefixRow>
-        requires { place < PLACES }
         ensures { result ≡ slice_index_or self.now.tables.rows place None }
     {
-        self.tables.rows[place as usize]
+        entry_at(&self.tables.rows, place as usize)
     }
 
     // How many nodes below the root are not free.

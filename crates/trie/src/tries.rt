@@ -13,6 +13,7 @@ use fields::faults::Fault;
 use fields::keys::Key;
 use fields::kinds::Kind;
 use fields::prefixes::Prefix;
+use parts::checks::{check_clear, check_set};
 use parts::marks::{PLACES, write_marked};
 use parts::told::Told;
 
@@ -69,29 +70,16 @@ impl Told<Prefix> for Trie {
     }
 
     fn set(&mut self, place: u8, value: Prefix) -> Result<(), Fault> {
-        if place as usize >= PLACES {
-            return Err(Fault::Label(place));
-        }
-        if self.tree.row(place).is_some() {
-            return Err(Fault::Full(place));
-        }
         let row = value.row();
         let mut path = [0; BITS];
         let end = self.tree.seek(row, &mut path);
-        if let Some(label) = self.tree.holder(row, end) {
-            return Err(Fault::Elsewhere(label));
-        }
+        check_set(place, &[], self.tree.row(place), self.tree.holder(row, end))?;
         self.tree.put(place, row, end);
         Ok(())
     }
 
     fn clear(&mut self, place: u8) -> Result<Prefix, Fault> {
-        if place as usize >= PLACES {
-            return Err(Fault::Label(place));
-        }
-        let Some(row) = self.tree.row(place) else {
-            return Err(Fault::Vacant(place));
-        };
+        let row = check_clear(place, self.tree.row(place))?;
         let value = Prefix::form(row)?;
         self.tree.remove(place, row);
         Ok(value)
