@@ -1,12 +1,12 @@
 -- A prefix gets its nodes: there is always room for them, and each node stays needed.
-use Rattle.std.proofs.Common.{◌≡◌, ℕ, ◌+◌, ◌*◌, ◌<◌, ◌≤◌, cond, eqb, ◌⊎◌, [], ◌∷◌, ◌++◌, length, get_or, set, Some, None, sym, refl, ap, ◌∙◌, subst, inl, inr, ⊎_elim, arith, length-set, length-append}
+use Rattle.std.proofs.Common.{◌≡◌, ℕ, ◌+◌, ◌*◌, ◌<◌, ◌≤◌, cond, eqb, ◌⊎◌, List, [], ◌∷◌, ◌++◌, length, get_or, set, Some, None, sym, refl, ap, ◌∙◌, subst, inl, inr, ⊎_elim, arith, length-set, length-append}
 use Rattle.std.proofs.lemmas.List.{get_or-set_other}
 use Rattle.arrayvec.specs.ArrayVec.{ArrayVec}
 use Rattle.fields.specs.declared.prefixes.PrefixRow.{PrefixRow}
 use Rattle.trie.specs.declared.nodes.Node.{Node}
 use Rattle.trie.specs.declared.nodes.Tables.{Tables}
 use Rattle.trie.specs.Strings.{string, bit_after, code, codes, first_strings, all_beginnings, Among, Distinct, Begins}
-use Rattle.trie.specs.Trees.{blank, no_node, at, linked, labelled, Stack, Listed, Good, Ends, Growing}
+use Rattle.trie.specs.Trees.{blank, no_node, at, linked, labelled, Stack, Listed, Good, Lawful, Walked, Growing}
 use Rattle.trie.specs.Bitstrings.{shift_none, string_pos, bit_below, string_more, strings_among}
 use Rattle.trie.specs.Counting.{part_length, begins_among, all_few, among_last}
 use Rattle.trie.proofs.Begun.{row_at, row_off, lawful_set, filled_begins}
@@ -14,15 +14,15 @@ use Rattle.trie.proofs.Grown.{grown, grown_names, grown_listed, grown_each, leaf
 use Rattle.trie.specs.Relabelled.{relabelled, set_names}
 
 -- a walk's end is where growth starts
-pub starts : (t : Tables) (row : PrefixRow) (node depth p : ℕ) → Ends t row node depth → p < 96 → get_or t.rows p None ≡ None → Growing t row node depth
-starts t row node depth p w lp vacant = record {
+pub starts : (t : Tables) (row : PrefixRow) (path : List ℕ) (d p : ℕ) → Lawful row → Walked t row.address row.length path → length path ≡ d + 1 → p < 96 → get_or t.rows p None ≡ None → Growing t row (get_or path d 0) d
+starts t row path d p lawful w long lp vacant = record {
   key = w.good.key;
   ks = w.good.ks;
   frame = w.good.frame;
-  lawful = w.lawful;
+  lawful = lawful;
   nearly = λ i pi li. inl (w.good.needed i pi li);
-  for = w.for;
-  stops = w.stops;
+  for = w.passed d (omega arith);
+  stops = w.stops d long;
   vacant = (p, lp, vacant);
 }
 

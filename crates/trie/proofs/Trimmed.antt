@@ -1,57 +1,34 @@
 -- A prefix loses its label and then, from the last up, the nodes that nothing needs.
-use Rattle.std.proofs.Common.{◌≡◌, ℕ, ◌+◌, ◌-◌, ◌*◌, ◌/◌, ◌^◌, ◌<◌, ◌≤◌, true, false, cond, eqb, zero, suc, ◌⊎◌, List, [], ◌∷◌, ◌++◌, length, get_or, set, Some, None, Option, sym, refl, ap, ◌∙◌, subst, inl, inr, ⊎_elim, arith, length-set, length-append}
+use Rattle.std.proofs.Common.{◌≡◌, ℕ, ◌+◌, ◌*◌, ◌<◌, ◌≤◌, true, false, cond, eqb, zero, suc, ◌⊎◌, List, [], ◌∷◌, ◌++◌, length, get_or, set, Some, None, Option, sym, refl, ap, ◌∙◌, subst, inl, inr, ⊎_elim, arith, length-set, length-append}
 use mathlib.Core.Logic.{∥∥₁_elim}
 use native.Mathlib.Bridge.{le_prop}
 use native.Mathlib.Nat.{ℕ_set}
 use Rattle.std.proofs.lemmas.Bool.{cases_lt, eqb-true, eq-eqb, and_parts, and_cases}
 use Rattle.std.specs.List.{list_all}
-use Rattle.std.specs.Prelude.{is_none, IsSome}
+use Rattle.std.specs.Prelude.{is_none}
 use Rattle.arrayvec.specs.ArrayVec.{ArrayVec}
 use Rattle.fields.specs.declared.prefixes.PrefixRow.{PrefixRow}
 use Rattle.trie.specs.declared.nodes.Node.{Node}
 use Rattle.trie.specs.declared.nodes.Tables.{Tables}
 use Rattle.trie.specs.Strings.{string, bit_after, code, codes, first_strings, beginnings, Among, Begins}
-use Rattle.trie.specs.Trees.{at, child, linked, labelled, is, bare, Stack, Listed, Lawful, LawfulAt, Good, Ends, Walked, Trimming}
-use Rattle.trie.specs.Bitstrings.{shift_none, string_pos, string_shift, bit_below, string_more, same_length, among_strings, strings_among}
+use Rattle.trie.specs.Trees.{at, child, linked, labelled, is, bare, Stack, Listed, Lawful, LawfulAt, Good, Walked, Trimming}
+use Rattle.trie.specs.Bitstrings.{shift_none, string_pos, bit_below, string_more, same_length, among_strings, strings_among}
 use Rattle.trie.specs.Counting.{without}
 use Rattle.trie.specs.Uses.{some_or_none}
+use Rattle.trie.proofs.Walks.{reaches}
 use Rattle.trie.proofs.Begun.{shorter_begins, parent_begins, own_begins, none_longer, row_at, row_off, lawful_set, begins_off}
 use Rattle.trie.proofs.Freed.{pruned, pruned_names, pruned_still, pruned_keeps, pruned_listed, pruned_stack}
 use Rattle.trie.specs.Relabelled.{relabelled, wiped_names}
 
-pub end_in_use : (t : Tables) (row : PrefixRow) (node depth : ℕ) (w : Ends t row node depth) → 0 < w.good.key node
-end_in_use t row node depth w = subst (λ (x : ℕ). 0 < x) (sym w.for) (string_pos row.address depth)
-
-pub end_within : (t : Tables) (row : PrefixRow) (node depth : ℕ) → Ends t row node depth → node < 3073
-end_within t row node depth w = w.good.frame.shape.bound node (end_in_use t row node depth w)
-
--- where the walk stops early, no prefix goes on that way
-pub none_further : (t : Tables) (row : PrefixRow) (node depth l : ℕ) → Ends t row node depth → depth < row.length → codes t.rows l ≡ code (Some row) → ⊥
-none_further t row node depth l w less e =
-    let a = row.address in
-    let n = row.length in
-    let few = w.lawful.short in
-    let s = string_shift a (depth + 1) n (omega arith) few in
-    let m = string_more a depth (omega arith) in
-    w.good.frame.named.reached l node (bit_after a depth) (n - (depth + 1)) (end_in_use t row node depth w) (bit_below a depth) (w.stops less)
-    (ap (λ (x : ℕ). x / 2 ^ (n - (depth + 1))) e ∙ s ∙ m ∙ ap (λ (x : ℕ). 2 * x + bit_after a depth) (sym w.for))
-
--- the walk towards a held prefix reaches its node
-pub held_depth : (t : Tables) (row : PrefixRow) (node depth p : ℕ) → Ends t row node depth → get_or t.rows p None ≡ Some row → depth ≡ row.length
-held_depth t row node depth p w held = ⊎_elim
-    (λ (less : depth < row.length). absurd (none_further t row node depth p w less (ap code held)))
-    (λ (ge : row.length ≤ depth). omega (arith, w.within))
-    (cases_lt depth row.length)
-
-pub wiped : (t : Tables) (row : PrefixRow) (path : List ℕ) (node depth p : ℕ) → Walked t row path node depth → p < 96 → get_or t.rows p None ≡ Some row
-    → Trimming record { rows = set t.rows p None; nodes = set t.nodes node (labelled (at t.nodes node) None); free = t.free } row path row.length
-wiped t row path node depth p w lp held =
-    let e = w.ends in
-    let g = e.good in
-    let li = end_in_use t row node depth e in
+pub wiped : (t : Tables) (row : PrefixRow) (path : List ℕ) (p : ℕ) → Lawful row → Walked t row.address row.length path → p < 96 → get_or t.rows p None ≡ Some row
+    → Trimming record { rows = set t.rows p None; nodes = set t.nodes (get_or path row.length 0) (labelled (at t.nodes (get_or path row.length 0)) None); free = t.free } row path row.length
+wiped t row path p lawful w lp held =
+    let g = w.good in
+    let long = reaches t row path p lawful w held in
+    let node = get_or path row.length 0 in
+    let own : g.key node ≡ string row.address row.length = w.passed row.length long in
+    let li : 0 < g.key node = subst (λ (x : ℕ). 0 < x) (sym own) (string_pos row.address row.length) in
     let few : p < length t.rows = omega (arith, g.frame.size) in
-    let d = held_depth t row node depth p e held in
-    let own : g.key node ≡ string row.address row.length = e.for ∙ ap (string row.address) d in
     let c = codes t.rows in
     let c' = codes (set t.rows p None) in
     record {
@@ -65,12 +42,12 @@ wiped t row path node depth p w lp held =
         size = length-set t.rows p None ∙ g.frame.size;
         lawful = lawful_set t.rows p None few g.frame.lawful tt;
       };
-      lawful = e.lawful;
+      lawful = lawful;
       nearly = λ j pj lj. ⊎_elim
           (λ (x : Begins (set t.rows p None) (g.key j)). inl x)
           (λ (y : Among (g.key j) (beginnings (get_or t.rows p None))). inr (subst (λ (o : Option PrefixRow). Among (g.key j) (beginnings o)) held y))
           (begins_off t.rows p None few (g.key j) (g.needed j pj lj));
-      last = (node, own);
+      long = long;
       passed = λ j lj. w.passed j (omega arith);
     }
 
@@ -139,6 +116,9 @@ module _ (t : Tables) (row : PrefixRow) (path : List ℕ) (k : ℕ) (g : Trimmin
   abbrev b : ℕ
   b = bit_after a k
 
+  abbrev n : ℕ
+  n = get_or path (k + 1) 0
+
   few : k < 32
   few = omega (arith, g.lawful.short)
 
@@ -161,99 +141,98 @@ module _ (t : Tables) (row : PrefixRow) (path : List ℕ) (k : ℕ) (g : Trimmin
       (λ (h : c ≤ 0). let z : c ≡ 0 = omega arith in absurd (omega (arith, ap g.key z, g.frame.shape.root)))
       (cases_lt 0 c)
 
-  pub node_there : IsSome (child (at t.nodes i) b)
-  node_there = ⊎_elim
-      (λ (gap : child (at t.nodes i) b ≡ None).
-      let l = g.last in
-      absurd (g.frame.shape.whole l.0 (subst (λ (x : ℕ). 0 < x) (sym l.1) (string_pos a (k + 1))) i b 0 parent_used (bit_below a k) gap (shift_none (g.key l.0) ∙ l.1 ∙ next_is)))
-      (λ (c : (x : ℕ) × (child (at t.nodes i) b ≡ Some x)). subst IsSome (sym c.1) refl)
+  node_is : g.key n ≡ string a (k + 1)
+  node_is = g.passed (k + 1) (omega arith)
+
+  node_used : 0 < g.key n
+  node_used = subst (λ (x : ℕ). 0 < x) (sym node_is) (string_pos a (k + 1))
+
+  pub last_within : n < 3073
+  last_within = g.frame.shape.bound n node_used
+
+  link : child (at t.nodes i) b ≡ Some n
+  link = ⊎_elim
+      (λ (gap : child (at t.nodes i) b ≡ None). absurd (g.frame.shape.whole n node_used i b 0 parent_used (bit_below a k) gap (shift_none (g.key n) ∙ node_is ∙ next_is)))
+      (λ (c : (x : ℕ) × (child (at t.nodes i) b ≡ Some x)).
+      let c-is : g.key c.0 ≡ g.key n = g.frame.shape.next i b c.0 (bit_below a k) parent_used c.1 ∙ sym next_is ∙ sym node_is in
+      c.1 ∙ ap Some (g.frame.shape.single c.0 n (subst (λ (x : ℕ). 0 < x) (sym c-is) node_used) node_used c-is))
       (some_or_none (child (at t.nodes i) b))
 
-  module _ (n : ℕ) (link : child (at t.nodes i) b ≡ Some n) where
-    node_is : g.key n ≡ string a (k + 1)
-    node_is = g.frame.shape.next i b n (bit_below a k) parent_used link ∙ sym next_is
+  -- if a held prefix begins with its string, every node is needed
+  all_needed : Begins t.rows (string a (k + 1)) → Good t
+  all_needed h = record {
+    key = g.key;
+    ks = g.ks;
+    frame = g.frame;
+    needed = λ j pj lj. ⊎_elim
+        (λ (x : Begins t.rows (g.key j)). x)
+        (λ (y : Among (g.key j) (first_strings a (k + 1))).
+        let r = among_strings a (k + 1) (g.key j) y in
+        (h.0, subst (λ (x : ℕ). Among x (beginnings (get_or t.rows h.0 None))) (sym r.3) (shorter_begins (get_or t.rows h.0 None) a (k + 1) r.0 (g.frame.lawful h.0) g.lawful.fits (omega (arith, few)) r.1 r.2 h.1)))
+        (g.nearly j pj lj);
+  }
 
-    node_used : 0 < g.key n
-    node_used = subst (λ (x : ℕ). 0 < x) (sym node_is) (string_pos a (k + 1))
+  label_needed : (l : ℕ) → (at t.nodes n).label ≡ Some l → Good t
+  label_needed l e =
+      let same : codes t.rows l ≡ g.key n = eqb-true (codes t.rows l) (g.key n) (sym (g.frame.named.names n l node_used) ∙ ap (λ (o : Option ℕ). is o l) e ∙ eq-eqb l l refl) in
+      all_needed (l, own_begins (get_or t.rows l None) a (k + 1) (g.frame.lawful l) g.lawful.fits (omega arith) (omega (arith, few)) (same ∙ node_is))
 
-    pub last_within : n < 3073
-    last_within = g.frame.shape.bound n node_used
+  child_needed : (d c : ℕ) → d < 2 → child (at t.nodes n) d ≡ Some c → Good t
+  child_needed d c ld e =
+      let c-is : g.key c ≡ 2 * string a (k + 1) + d = g.frame.shape.next n d c ld node_used e ∙ ap (λ (x : ℕ). 2 * x + d) node_is in
+      let used : 0 < g.key c = omega (arith, c-is, string_pos a (k + 1)) in
+      ⊎_elim
+      (λ (x : Begins t.rows (g.key c)). all_needed (x.0, parent_begins (get_or t.rows x.0 None) a (k + 1) d (g.frame.lawful x.0) g.lawful.fits (omega arith) (omega (arith, few)) ld (subst (λ (z : ℕ). Among z (beginnings (get_or t.rows x.0 None))) c-is x.1)))
+      (λ (m : Among (g.key c) (first_strings a (k + 1))). absurd (none_longer a (k + 1) d g.lawful.fits (omega (arith, few)) (subst (λ (z : ℕ). Among z (first_strings a (k + 1))) c-is m)))
+      (g.nearly c (below_root c (omega (arith, c-is, string_pos a (k + 1)))) used)
 
-    -- if a held prefix begins with its string, every node is needed
-    all_needed : Begins t.rows (string a (k + 1)) → Good t
-    all_needed h = record {
-      key = g.key;
-      ks = g.ks;
-      frame = g.frame;
-      needed = λ j pj lj. ⊎_elim
-          (λ (x : Begins t.rows (g.key j)). x)
-          (λ (y : Among (g.key j) (first_strings a (k + 1))).
-          let r = among_strings a (k + 1) (g.key j) y in
-          (h.0, subst (λ (x : ℕ). Among x (beginnings (get_or t.rows h.0 None))) (sym r.3) (shorter_begins (get_or t.rows h.0 None) a (k + 1) r.0 (g.frame.lawful h.0) g.lawful.fits (omega (arith, few)) r.1 r.2 h.1)))
-          (g.nearly j pj lj);
-    }
+  pub spare_room : length t.free.items < 3072
+  spare_room = ⊎_elim
+      (λ (h : length t.free.items < 3072). h)
+      (λ (h : 3072 ≤ length t.free.items). absurd (none_listed g.ks (g.key n) (omega (arith, g.frame.listed.many)) (g.frame.listed.each n (below_root n (omega (arith, node_is, next_is, parent_used))) node_used)))
+      (cases_lt (length t.free.items) 3072)
 
-    label_needed : (l : ℕ) → (at t.nodes n).label ≡ Some l → Good t
-    label_needed l e =
-        let same : codes t.rows l ≡ g.key n = eqb-true (codes t.rows l) (g.key n) (sym (g.frame.named.names n l node_used) ∙ ap (λ (o : Option ℕ). is o l) e ∙ eq-eqb l l refl) in
-        all_needed (l, own_begins (get_or t.rows l None) a (k + 1) (g.frame.lawful l) g.lawful.fits (omega arith) (omega (arith, few)) (same ∙ node_is))
+  -- a bare leaf goes
+  pub snipped : (free : ArrayVec ℕ) → free.items ≡ t.free.items ++ n ∷ [] → bare (at t.nodes n) ≡ true
+      → Trimming record { rows = t.rows; nodes = set t.nodes i (linked (at t.nodes i) b None); free = free } row path k
+  snipped free pushed is-bare =
+      let s = g.frame.shape in
+      let lb = bit_below a k in
+      let q = bare_leaf (at t.nodes n) is-bare in
+      let leaf = q.1 in
+      let other : (j m : ℕ) → j < k + 1 → g.key m ≡ string a j → cond (eqb m n) 0 (g.key m) ≡ g.key m = λ j m lj e. pruned_keeps g.key t.nodes n i b s parent_used lb link leaf m (λ q. let z : j ≡ k + 1 = same_length a a j (k + 1) g.lawful.fits g.lawful.fits (omega (arith, few)) (omega (arith, few)) (sym e ∙ q ∙ node_is) in omega arith) in
+      let more : length t.free.items + 1 ≡ length free.items = sym (ap length pushed ∙ length-append t.free.items (n ∷ [])) in
+      record {
+        key = λ j. cond (eqb j n) 0 (g.key j);
+        ks = without (g.key n) g.ks;
+        frame = record {
+          shape = pruned g.key t.nodes n i b s parent_used lb link leaf;
+          stack = subst (Stack (λ j. cond (eqb j n) 0 (g.key j))) (sym pushed) (pruned_stack g.key t.nodes n i b s parent_used lb link leaf t.free.items g.frame.stack);
+          named = pruned_names g.key t.nodes n i b s parent_used lb link leaf (codes t.rows) g.frame.named q.0;
+          listed = subst (Listed (λ j. cond (eqb j n) 0 (g.key j)) (without (g.key n) g.ks)) more (pruned_listed g.key t.nodes n i b s parent_used lb link leaf g.ks (length t.free.items) g.frame.listed);
+          size = g.frame.size;
+          lawful = g.frame.lawful;
+        };
+        lawful = g.lawful;
+        nearly = λ j pj lj.
+            let w = pruned_still g.key t.nodes n i b s parent_used lb link leaf j lj in
+            let q : Begins t.rows (g.key j) ⊎ Among (g.key j) (first_strings a k) = ⊎_elim
+            (λ (x : Begins t.rows (g.key j)). inl x)
+            (λ (y : Among (g.key j) (first_strings a (k + 1))).
+            let r = among_strings a (k + 1) (g.key j) y in
+            ⊎_elim
+            (λ (h : r.0 < k + 1). inr (strings_among a k (g.key j) r.0 r.1 (omega arith) r.3))
+            (λ (h : k + 1 ≤ r.0). let z : r.0 ≡ k + 1 = omega (arith, r.2) in absurd (w.2 (r.3 ∙ ap (string a) z ∙ sym node_is)))
+            (cases_lt r.0 (k + 1)))
+            (g.nearly j pj w.1) in
+            subst (λ (x : ℕ). Begins t.rows x ⊎ Among x (first_strings a k)) (sym w.0) q;
+        long = omega (arith, g.long);
+        passed = λ j lj. other j (get_or path j 0) (omega arith) (g.passed j (omega arith)) ∙ g.passed j (omega arith);
+      }
 
-    child_needed : (d c : ℕ) → d < 2 → child (at t.nodes n) d ≡ Some c → Good t
-    child_needed d c ld e =
-        let c-is : g.key c ≡ 2 * string a (k + 1) + d = g.frame.shape.next n d c ld node_used e ∙ ap (λ (x : ℕ). 2 * x + d) node_is in
-        let used : 0 < g.key c = omega (arith, c-is, string_pos a (k + 1)) in
-        ⊎_elim
-        (λ (x : Begins t.rows (g.key c)). all_needed (x.0, parent_begins (get_or t.rows x.0 None) a (k + 1) d (g.frame.lawful x.0) g.lawful.fits (omega arith) (omega (arith, few)) ld (subst (λ (z : ℕ). Among z (beginnings (get_or t.rows x.0 None))) c-is x.1)))
-        (λ (m : Among (g.key c) (first_strings a (k + 1))). absurd (none_longer a (k + 1) d g.lawful.fits (omega (arith, few)) (subst (λ (z : ℕ). Among z (first_strings a (k + 1))) c-is m)))
-        (g.nearly c (below_root c (omega (arith, c-is, string_pos a (k + 1)))) used)
-
-    pub spare_room : length t.free.items < 3072
-    spare_room = ⊎_elim
-        (λ (h : length t.free.items < 3072). h)
-        (λ (h : 3072 ≤ length t.free.items). absurd (none_listed g.ks (g.key n) (omega (arith, g.frame.listed.many)) (g.frame.listed.each n (below_root n (omega (arith, node_is, next_is, parent_used))) node_used)))
-        (cases_lt (length t.free.items) 3072)
-
-    -- a bare leaf goes
-    pub snipped : (free : ArrayVec ℕ) → free.items ≡ t.free.items ++ n ∷ [] → bare (at t.nodes n) ≡ true
-        → Trimming record { rows = t.rows; nodes = set t.nodes i (linked (at t.nodes i) b None); free = free } row path k
-    snipped free pushed is-bare =
-        let s = g.frame.shape in
-        let lb = bit_below a k in
-        let q = bare_leaf (at t.nodes n) is-bare in
-        let leaf = q.1 in
-        let other : (j m : ℕ) → j < k + 1 → g.key m ≡ string a j → cond (eqb m n) 0 (g.key m) ≡ g.key m = λ j m lj e. pruned_keeps g.key t.nodes n i b s parent_used lb link leaf m (λ q. let z : j ≡ k + 1 = same_length a a j (k + 1) g.lawful.fits g.lawful.fits (omega (arith, few)) (omega (arith, few)) (sym e ∙ q ∙ node_is) in omega arith) in
-        let more : length t.free.items + 1 ≡ length free.items = sym (ap length pushed ∙ length-append t.free.items (n ∷ [])) in
-        record {
-          key = λ j. cond (eqb j n) 0 (g.key j);
-          ks = without (g.key n) g.ks;
-          frame = record {
-            shape = pruned g.key t.nodes n i b s parent_used lb link leaf;
-            stack = subst (Stack (λ j. cond (eqb j n) 0 (g.key j))) (sym pushed) (pruned_stack g.key t.nodes n i b s parent_used lb link leaf t.free.items g.frame.stack);
-            named = pruned_names g.key t.nodes n i b s parent_used lb link leaf (codes t.rows) g.frame.named q.0;
-            listed = subst (Listed (λ j. cond (eqb j n) 0 (g.key j)) (without (g.key n) g.ks)) more (pruned_listed g.key t.nodes n i b s parent_used lb link leaf g.ks (length t.free.items) g.frame.listed);
-            size = g.frame.size;
-            lawful = g.frame.lawful;
-          };
-          lawful = g.lawful;
-          nearly = λ j pj lj.
-              let w = pruned_still g.key t.nodes n i b s parent_used lb link leaf j lj in
-              let q : Begins t.rows (g.key j) ⊎ Among (g.key j) (first_strings a k) = ⊎_elim
-              (λ (x : Begins t.rows (g.key j)). inl x)
-              (λ (y : Among (g.key j) (first_strings a (k + 1))).
-              let r = among_strings a (k + 1) (g.key j) y in
-              ⊎_elim
-              (λ (h : r.0 < k + 1). inr (strings_among a k (g.key j) r.0 r.1 (omega arith) r.3))
-              (λ (h : k + 1 ≤ r.0). let z : r.0 ≡ k + 1 = omega (arith, r.2) in absurd (w.2 (r.3 ∙ ap (string a) z ∙ sym node_is)))
-              (cases_lt r.0 (k + 1)))
-              (g.nearly j pj w.1) in
-              subst (λ (x : ℕ). Begins t.rows x ⊎ Among x (first_strings a k)) (sym w.0) q;
-          last = (i, other k i (omega arith) i_is ∙ i_is);
-          passed = λ j lj. other j (get_or path j 0) (omega arith) (g.passed j (omega arith)) ∙ g.passed j (omega arith);
-        }
-
-    -- a node that is not bare is needed, and so are those above it
-    pub kept : bare (at t.nodes n) ≡ false → Good t
-    kept h = ⊎_elim
-        (λ (x : (l : ℕ) × ((at t.nodes n).label ≡ Some l)). label_needed x.0 x.1)
-        (λ (y : (d c : ℕ) × (d < 2) × (child (at t.nodes n) d ≡ Some c)). child_needed y.0 y.1 y.2 y.3)
-        (not_bare (at t.nodes n) (g.frame.shape.both n node_used) h)
+  -- a node that is not bare is needed, and so are those above it
+  pub kept : bare (at t.nodes n) ≡ false → Good t
+  kept h = ⊎_elim
+      (λ (x : (l : ℕ) × ((at t.nodes n).label ≡ Some l)). label_needed x.0 x.1)
+      (λ (y : (d c : ℕ) × (d < 2) × (child (at t.nodes n) d ≡ Some c)). child_needed y.0 y.1 y.2 y.3)
+      (not_bare (at t.nodes n) (g.frame.shape.both n node_used) h)

@@ -1,8 +1,9 @@
 -- The walk of an address down the trie.
-use Rattle.std.proofs.Common.{◌≡◌, ℕ, zero, suc, ◌+◌, ◌-◌, ◌*◌, ◌/◌, ◌^◌, ◌<◌, ◌≤◌, Bool, true, false, ◌||◌, eqb, List, length, get_or, set, Some, None, Option, sym, refl, ap, ◌∙◌, subst, ⊎_elim, add-one, arith, length-set}
+use Rattle.std.proofs.Common.{◌≡◌, ℕ, zero, suc, ◌+◌, ◌-◌, ◌*◌, ◌/◌, ◌^◌, ◌<◌, ◌≤◌, Bool, true, false, ◌||◌, eqb, List, [], ◌∷◌, ◌++◌, length, get_or, set, Some, None, Option, sym, refl, ap, ◌∙◌, subst, ⊎_elim, add-one, arith, length-set, length-append}
 use mathlib.Core.Logic.{∥∥₁_elim}
-use mathlib.Core.Bool.{Bool-set}
 use native.Mathlib.Bridge.{le_prop}
+use Rattle.std.proofs.Math.ListN.{get_or-append}
+use Rattle.std.proofs.Math.Seq.{get_or-append_seam}
 use Rattle.std.proofs.lemmas.List.{get_or-set_same, get_or-set_other}
 use Rattle.std.proofs.lemmas.Bool.{cases_eq, cases_lt, eq-eqb, ne_eqb}
 use Rattle.fields.specs.declared.prefixes.PrefixRow.{PrefixRow}
@@ -17,44 +18,88 @@ pub record Standing (t : Tables) (a node depth : ℕ) : Type 0 where
   pub good : Good t
   pub for : good.key node ≡ string a depth
 
-pub record Walking (t : Tables) (a : ℕ) (path : List ℕ) (node depth : ℕ) : Type 0 where
-  pub here : Standing t a node depth
-  pub passed : (j : ℕ) → j < depth → here.good.key (get_or path j 0) ≡ string a j
-
 pub used : (t : Tables) (a i k : ℕ) (s : Standing t a i k) → 0 < s.good.key i
 used t a i k s = subst (λ (x : ℕ). 0 < x) (sym s.for) (string_pos a k)
 
-pub inside : (t : Tables) (a i k : ℕ) → ∥ Standing t a i k ∥₁ → i < 3073
-inside t a i k e = ∥∥₁_elim e le_prop (λ s. s.good.frame.shape.bound i (used t a i k s))
+-- and that node is the last of its path
+pub record Walking (t : Tables) (a : ℕ) (path : List ℕ) (node depth : ℕ) : Type 0 where
+  pub good : Good t
+  pub size : length path ≡ depth + 1
+  pub last : get_or path depth 0 ≡ node
+  pub passed : (j : ℕ) → j ≤ depth → good.key (get_or path j 0) ≡ string a j
 
-pub at_root : (t : Tables) (a : ℕ) → a < 2 ^ 32 → Good t → Standing t a 0 0
-at_root t a la g = record { good = g; for = g.frame.shape.root ∙ sym (string_none a la) }
+abbrev pub standing : (t : Tables) (a : ℕ) (path : List ℕ) (i k : ℕ) → Walking t a path i k → Standing t a i k
+standing t a path i k w = record { good = w.good; for = ap w.good.key (sym w.last) ∙ w.passed k (omega arith) }
+
+pub inside : (t : Tables) (a : ℕ) (path : List ℕ) (i k : ℕ) → ∥ Walking t a path i k ∥₁ → i < 3073
+inside t a path i k e = ∥∥₁_elim e le_prop (λ w. w.good.frame.shape.bound i (used t a i k (standing t a path i k w)))
+
+pub at_root : (t : Tables) (a : ℕ) (path : List ℕ) → a < 2 ^ 32 → path ≡ 0 ∷ [] → Good t → Walking t a path 0 0
+at_root t a path la e g = record {
+  good = g;
+  size = ap length e;
+  last = ap (λ (xs : List ℕ). get_or xs 0 0) e;
+  passed = λ j lj.
+      let z : j ≡ 0 = omega arith in
+      ap (λ (k : ℕ). g.key (get_or path k 0)) z ∙ ap (λ (xs : List ℕ). g.key (get_or xs 0 0)) e ∙ g.frame.shape.root ∙ sym (string_none a la) ∙ ap (string a) (sym z);
+}
 
 -- one step down
-pub goes_on : (t : Tables) (a i k c : ℕ) → (s : Standing t a i k) → k < 32 → child (at t.nodes i) (bit_after a k) ≡ Some c → s.good.key c ≡ string a (k + 1)
-goes_on t a i k c s few e =
+pub walks_on : (t : Tables) (a i k c : ℕ) (path more : List ℕ) → Walking t a path i k → k < 32 → child (at t.nodes i) (bit_after a k) ≡ Some c → more ≡ path ++ c ∷ [] → Walking t a more c (k + 1)
+walks_on t a i k c path more w few e longer =
+    let s = standing t a path i k w in
     let b = bit_after a k in
-    s.good.frame.shape.next i b c (bit_below a k) (used t a i k s) e ∙ ap (λ (x : ℕ). 2 * x + b) s.for ∙ sym (string_more a k few)
+    let new : w.good.key c ≡ string a (k + 1) = w.good.frame.shape.next i b c (bit_below a k) (used t a i k s) e ∙ ap (λ (x : ℕ). 2 * x + b) s.for ∙ sym (string_more a k few) in
+    let last : get_or more (k + 1) 0 ≡ c = ap (λ (xs : List ℕ). get_or xs (k + 1) 0) longer ∙ ap (λ (x : ℕ). get_or (path ++ c ∷ []) x 0) (sym w.size) ∙ get_or-append_seam path c [] 0 in
+    record {
+      good = w.good;
+      size = omega (arith, ap length longer, length-append path (c ∷ []), w.size);
+      last = last;
+      passed = λ j lj. ⊎_elim
+          (λ (l : j < k + 1). ap (λ (xs : List ℕ). w.good.key (get_or xs j 0)) longer ∙ ap w.good.key (get_or-append path (c ∷ []) 0 j (omega (arith, w.size))) ∙ w.passed j (omega arith))
+          (λ (l : k + 1 ≤ j). let z : j ≡ k + 1 = omega arith in ap (λ (x : ℕ). w.good.key (get_or more x 0)) z ∙ ap w.good.key last ∙ new ∙ ap (string a) (sym z))
+          (cases_lt j (k + 1));
+    }
 
-abbrev pub stands_on : (t : Tables) (a i k c : ℕ) → Standing t a i k → k < 32 → child (at t.nodes i) (bit_after a k) ≡ Some c → Standing t a c (k + 1)
-stands_on t a i k c s few e = record { good = s.good; for = goes_on t a i k c s few e }
-
-pub walks_on : (t : Tables) (a i k c : ℕ) (path : List ℕ) → Walking t a path i k → k < 32 → length path ≡ 32 → child (at t.nodes i) (bit_after a k) ≡ Some c → Walking t a (set path k i) c (k + 1)
-walks_on t a i k c path w few size e = record {
-  here = stands_on t a i k c w.here few e;
-  passed = λ j lj. ⊎_elim
-      (λ (q : j ≡ k). ap (λ (x : ℕ). w.here.good.key (get_or (set path k i) x 0)) q ∙ ap w.here.good.key (get_or-set_same path k i 0 (omega arith)) ∙ w.here.for ∙ ap (string a) (sym q))
-      (λ (q : j ≡ k → ⊥).
-      let l : j < k = ⊎_elim (λ (h : j < k). h) (λ (h : k ≤ j). absurd (q (omega arith))) (cases_lt j k) in
-      ap w.here.good.key (get_or-set_other path k j i 0 q) ∙ w.passed j l)
-      (cases_eq j k);
+pub walked : (t : Tables) (a n : ℕ) (path : List ℕ) (i k : ℕ) → Walking t a path i k → k ≤ n → (k < n → child (at t.nodes i) (bit_after a k) ≡ None) → Walked t a n path
+walked t a n path i k w within stops = record {
+  good = w.good;
+  some = omega (arith, w.size);
+  within = omega (arith, w.size);
+  passed = λ j lj. w.passed j (omega (arith, w.size));
+  stops = λ d e less.
+      let z : d ≡ k = omega (arith, w.size) in
+      ap (λ (x : ℕ). child (at t.nodes (get_or path x 0)) (bit_after a x)) z ∙ ap (λ (x : ℕ). child (at t.nodes x) (bit_after a k)) w.last ∙ stops (omega arith);
 }
 
-pub walked : (t : Tables) (row : PrefixRow) (path : List ℕ) (i k : ℕ) → Walking t row.address path i k → Lawful row → k ≤ row.length → (k < row.length → child (at t.nodes i) (bit_after row.address k) ≡ None) → Walked t row path i k
-walked t row path i k w lawful within stops = record {
-  ends = record { good = w.here.good; lawful = lawful; within = within; for = w.here.for; stops = stops };
-  passed = w.passed;
-}
+-- the nodes of a path
+abbrev pub passing : (t : Tables) (a n : ℕ) (path : List ℕ) (j : ℕ) → Walked t a n path → j < length path → Standing t a (get_or path j 0) j
+passing t a n path j w lj = record { good = w.good; for = w.passed j lj }
+
+pub passing_within : (t : Tables) (a n : ℕ) (path : List ℕ) (j : ℕ) → Walked t a n path → j < length path → get_or path j 0 < 3073
+passing_within t a n path j w lj = w.good.frame.shape.bound (get_or path j 0) (used t a (get_or path j 0) j (passing t a n path j w lj))
+
+-- where the walk stops early, no prefix goes on that way
+pub none_further : (t : Tables) (row : PrefixRow) (path : List ℕ) (l : ℕ) → Lawful row → Walked t row.address row.length path → length path ≤ row.length → codes t.rows l ≡ code (Some row) → ⊥
+none_further t row path l lawful w less e =
+    let a = row.address in
+    let n = row.length in
+    let d = length path - 1 in
+    let i = get_or path d 0 in
+    let few = lawful.short in
+    let long : length path ≡ d + 1 = omega (arith, w.some) in
+    let s = string_shift a (d + 1) n (omega arith) few in
+    let m = string_more a d (omega arith) in
+    let for = w.passed d (omega arith) in
+    w.good.frame.named.reached l i (bit_after a d) (n - (d + 1)) (subst (λ (x : ℕ). 0 < x) (sym for) (string_pos a d)) (bit_below a d) (w.stops d long (omega arith))
+    (ap (λ (x : ℕ). x / 2 ^ (n - (d + 1))) e ∙ s ∙ m ∙ ap (λ (x : ℕ). 2 * x + bit_after a d) (sym for))
+
+-- the walk towards a held prefix reaches its node
+pub reaches : (t : Tables) (row : PrefixRow) (path : List ℕ) (p : ℕ) → Lawful row → Walked t row.address row.length path → get_or t.rows p None ≡ Some row → row.length < length path
+reaches t row path p lawful w held = ⊎_elim
+    (λ (h : row.length < length path). h)
+    (λ (h : length path ≤ row.length). absurd (none_further t row path p lawful w h (ap code held)))
+    (cases_lt row.length (length path))
 
 -- whether v is one of an address's strings with fewer than k bits
 unfoldable pub met : ℕ → ℕ → ℕ → Bool
@@ -93,15 +138,15 @@ pub found_length : (ms : List Bool) (o : Option ℕ) → length (mark_found ms o
 found_length ms None = refl
 found_length ms (Some l) = length-set ms l true
 
-pub marks_on : (t : Tables) (a i k l : ℕ) (was : Bool) (ms after : List Bool) → ∥ Standing t a i k ∥₁ → l < length ms → after ≡ mark_found ms (at t.nodes i).label → get_or ms l false ≡ (was || met (codes t.rows l) a k) → get_or after l false ≡ (was || met (codes t.rows l) a (k + 1))
-marks_on t a i k l was ms after st lm e q = ∥∥₁_elim st (Bool-set _ _) (λ s.
+pub marks_on : (t : Tables) (a i k l : ℕ) (was : Bool) (ms after : List Bool) → Standing t a i k → l < length ms → after ≡ mark_found ms (at t.nodes i).label → get_or ms l false ≡ (was || met (codes t.rows l) a k) → get_or after l false ≡ (was || met (codes t.rows l) a (k + 1))
+marks_on t a i k l was ms after s lm e q =
     ap (λ (x : List Bool). get_or x l false) e
     ∙ found_mark ms (at t.nodes i).label l lm
     ∙ ap (λ (x : Bool). x || is (at t.nodes i).label l) q
     ∙ or_assoc was (met (codes t.rows l) a k) (is (at t.nodes i).label l)
     ∙ ap (λ (x : Bool). was || (met (codes t.rows l) a k || x)) (s.good.frame.named.names i l (used t a i k s) ∙ ap (eqb (codes t.rows l)) s.for)
     ∙ ap (λ (x : Bool). was || x) (sym (met_more (codes t.rows l) a k))
-    ∙ ap (λ (x : ℕ). was || met (codes t.rows l) a x) (sym (add-one k)))
+    ∙ ap (λ (x : ℕ). was || met (codes t.rows l) a x) (sym (add-one k))
 
 met_stops : (v a j k : ℕ) → j ≤ k → ((m : ℕ) → j ≤ m → m < k → v ≡ string a m → ⊥) → met v a k ≡ met v a j
 met_stops v a j zero h q = let e : zero ≡ j = omega arith in ap (met v a) e
@@ -112,10 +157,20 @@ met_stops v a j (suc k) h q = ⊎_elim
     (cases_lt j (suc k))
 
 -- where there is no child, no held prefix is met any more
-pub stops : (t : Tables) (a i k l : ℕ) → Standing t a i k → k < 32 → child (at t.nodes i) (bit_after a k) ≡ None → met (codes t.rows l) a (k + 1) ≡ met (codes t.rows l) a 33
+stops : (t : Tables) (a i k l : ℕ) → Standing t a i k → k < 32 → child (at t.nodes i) (bit_after a k) ≡ None → met (codes t.rows l) a (k + 1) ≡ met (codes t.rows l) a 33
 stops t a i k l s few z = sym (met_stops (codes t.rows l) a (k + 1) 33 (omega arith) (λ m p q e.
     s.good.frame.named.reached l i (bit_after a k) (m - (k + 1)) (used t a i k s) (bit_below a k) z
     (ap (λ (x : ℕ). x / 2 ^ (m - (k + 1))) e ∙ string_shift a (k + 1) m (omega arith) (omega arith) ∙ string_more a k few ∙ ap (λ (x : ℕ). 2 * x + bit_after a k) (sym s.for))))
+
+-- nor behind the end of the path
+pub all_passed : (t : Tables) (a l : ℕ) (path : List ℕ) → Walked t a 32 path → met (codes t.rows l) a (length path) ≡ met (codes t.rows l) a 33
+all_passed t a l path w =
+    let d = length path - 1 in
+    let long : length path ≡ d + 1 = omega (arith, w.some) in
+    ⊎_elim
+    (λ (less : d < 32). ap (met (codes t.rows l) a) long ∙ stops t a (get_or path d 0) d l (passing t a 32 path d w (omega arith)) less (w.stops d long less))
+    (λ (all : 32 ≤ d). let z : length path ≡ 33 = omega (arith, w.within) in ap (met (codes t.rows l) a) z)
+    (cases_lt d 32)
 
 same_rest : (x a b : ℕ) → eqb (x + a) (x + b) ≡ eqb b a
 same_rest x a b = ⊎_elim

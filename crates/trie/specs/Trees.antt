@@ -109,18 +109,13 @@ pub record Good (t : Tables) : Type 0 where
   pub frame : Frame t key ks
   pub needed : Needed t.rows key
 
--- a walk towards a prefix ended at a node
-pub record Ends (t : Tables) (row : PrefixRow) (node depth : ℕ) : Type 0 where
+-- a walk towards the first n bits of an address passed these nodes, the root first, and went on as long as there was a next one
+pub record Walked (t : Tables) (a n : ℕ) (path : List ℕ) : Type 0 where
   pub good : Good t
-  pub lawful : Lawful row
-  pub within : depth ≤ row.length
-  pub for : good.key node ≡ string row.address depth
-  pub stops : depth < row.length → child (at t.nodes node) (bit_after row.address depth) ≡ None
-
--- and came along the path
-pub record Walked (t : Tables) (row : PrefixRow) (path : List ℕ) (node depth : ℕ) : Type 0 where
-  pub ends : Ends t row node depth
-  pub passed : (j : ℕ) → j < depth → ends.good.key (slice_index path j) ≡ string row.address j
+  pub some : 0 < length path
+  pub within : length path ≤ n + 1
+  pub passed : (j : ℕ) → j < length path → good.key (slice_index path j) ≡ string a j
+  pub stops : (d : ℕ) → length path ≡ d + 1 → d < n → child (at t.nodes (slice_index path d)) (bit_after a d) ≡ None
 
 -- nodes are being taken for a prefix, and the last is at depth
 pub record Growing (t : Tables) (row : PrefixRow) (node depth : ℕ) : Type 0 where
@@ -140,8 +135,8 @@ pub record Trimming (t : Tables) (row : PrefixRow) (path : List ℕ) (depth : �
   pub frame : Frame t key ks
   pub lawful : Lawful row
   pub nearly : Nearly t.rows row.address depth key
-  pub last : (n : ℕ) × (key n ≡ string row.address depth)
-  pub passed : (j : ℕ) → j < depth → key (slice_index path j) ≡ string row.address j
+  pub long : depth < length path
+  pub passed : (j : ℕ) → j ≤ depth → key (slice_index path j) ≡ string row.address j
 
 -- whether a place holds a prefix that takes the address
 abbrev pub covers : ℕ → Option PrefixRow → Bool

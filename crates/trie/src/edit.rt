@@ -1,9 +1,9 @@
 // Changes to the tables: nodes that are taken for a prefix, and freed when no prefix needs them.
 ghost use Rattle.std.specs.Prelude.{◌≡◌, ℕ, ◌+◌, ◌<◌, ◌≤◌, true, false, Some, None, ◌≢◌, slice_index_or, slice_set};
 ghost use Rattle.trie.specs.Strings.{code, codes};
-ghost use Rattle.trie.specs.Trees.{Good, Ends, Growing, Trimming};
+ghost use Rattle.trie.specs.Trees.{Good, Lawful, Walked, Growing, Trimming};
 
-use crate::nodes::{BITS, Node, Reached, Tables};
+use crate::nodes::{Node, Tables};
 use crate::tree::Tree;
 use crate::walk::bit_after;
 use fields::prefixes::PrefixRow;
@@ -23,22 +23,22 @@ impl Tables {
         node
     }
 
-    // Takes free nodes for all bits of a prefix that have none yet, and answers the last node.
-    fn grow(&mut self, row: PrefixRow, end: Reached) -> u16
-        requires within { end.depth ≤ row.length }
-        requires growing { ∥ Growing self.old row end.node end.depth ∥₁ }
+    // Takes free nodes for all bits of a prefix after the first `depth`, whose node there is, and answers the last node.
+    fn grow(&mut self, node: u16, row: PrefixRow, depth: u8) -> u16
+        requires within { depth ≤ row.length }
+        requires growing { ∥ Growing self.old row node depth ∥₁ }
         ensures rows { self.new.rows ≡ self.old.rows }
         ensures grown { ∥ Growing self.new row result row.length ∥₁ }
     {
-        let mut node = end.node;
-        for depth in end.depth..row.length {
-            node = self.extend(node, row, depth);
+        let mut last = node;
+        for depth in depth..row.length {
+            last = self.extend(last, row, depth);
         }
-        node
+        last
     }
 
     // Frees the last node of a prefix's first `depth + 1` bits if it has neither label nor child, and says whether it did.
-    fn snip(&mut self, path: &[u16; BITS], row: PrefixRow, depth: u8) -> bool
+    fn snip(&mut self, path: &[u16], row: PrefixRow, depth: u8) -> bool
         requires within { depth < row.length }
         requires trimming { ∥ Trimming self.old row path.now (depth + 1) ∥₁ }
         ensures rows { self.new.rows ≡ self.old.rows }
@@ -46,18 +46,17 @@ impl Tables {
         ensures kept { result ≡ false → ∥ Good self.new ∥₁ }
     {
         let parent = path[depth as usize] as usize;
-        let bit = bit_after(row.address, depth);
-        let last = self.nodes[parent].children[bit].unwrap();
+        let last = path[depth as usize + 1];
         if !self.nodes[last as usize].is_bare() {
             return false;
         }
-        self.nodes[parent].children[bit] = None;
+        self.nodes[parent].children[bit_after(row.address, depth)] = None;
         self.free.push(last);
         true
     }
 
     // Frees the nodes of a prefix that nothing needs, from the last up.
-    fn trim(&mut self, path: &[u16; BITS], row: PrefixRow)
+    fn trim(&mut self, path: &[u16], row: PrefixRow)
         requires { ∥ Trimming self.old row path.now row.length ∥₁ }
         ensures sound { ∥ Good self.new ∥₁ }
         ensures rows { self.new.rows ≡ self.old.rows }
@@ -71,15 +70,17 @@ impl Tables {
 }
 
 impl Tree {
-    // Puts a prefix that no place holds at an empty place, where the walk towards it ended.
-    pub fn put(&mut self, place: u8, row: PrefixRow, end: Reached)
+    // Puts a prefix that no place holds at an empty place, by the walk towards it.
+    pub fn put(&mut self, place: u8, row: PrefixRow, path: &[u16])
         requires within { place < 96 }
-        requires walked { ∥ Ends self.old.tables row end.node end.depth ∥₁ }
+        requires lawful { Lawful row }
+        requires walked { ∥ Walked self.old.tables row.address row.length path.now ∥₁ }
         requires vacant { slice_index_or self.old.tables.rows place None ≡ None }
         requires new { (l : ℕ) → codes self.old.tables.rows l ≢ code (Some row) }
         ensures { self.new.tables.rows ≡ slice_set self.old.tables.rows place (Some row) }
     {
-        let last = self.tables.grow(row, end);
+        let depth = path.len() - 1;
+        let last = self.tables.grow(path[depth], row, depth as u8);
         self.tables.nodes[last as usize].label = Some(place);
         self.tables.rows[place as usize] = Some(row);
     }
@@ -90,10 +91,11 @@ impl Tree {
         requires held { slice_index_or self.old.tables.rows place None ≡ Some row }
         ensures { self.new.tables.rows ≡ slice_set self.old.tables.rows place None }
     {
-        let mut path = [0; BITS];
-        let end = self.seek(row, &mut path);
-        self.tables.nodes[end.node as usize].label = None;
+        let path = self.walk(row.address, row.length);
+        let path = path.as_slice();
+        let last = path[row.length as usize];
+        self.tables.nodes[last as usize].label = None;
         self.tables.rows[place as usize] = None;
-        self.tables.trim(&path, row);
+        self.tables.trim(path, row);
     }
 }

@@ -9,6 +9,9 @@ use parts::marks::PLACES;
 // How many bits an address has.
 pub const BITS: usize = 32;
 
+// The most nodes on a way down from the root, which is one of them.
+pub const STEPS: usize = BITS + 1;
+
 // As many non-empty bit strings as the prefixes of all places begin with at most.
 pub const BELOW_ROOT: usize = PLACES * BITS;
 
@@ -41,11 +44,4 @@ pub struct Tables {
     pub rows: [Option<PrefixRow>; PLACES],
     pub nodes: [Node; NODES],
     pub free: ArrayVec<u16, BELOW_ROOT>,
-}
-
-// Where a walk from the root ends: a node, and how many bits it stands for.
-#[derive(Clone, Copy)]
-pub struct Reached {
-    pub node: u16,
-    pub depth: u8,
 }

@@ -6,7 +6,6 @@ ghost use Rattle.fields.specs.declared.prefixes.Prefix.{Prefix};
 ghost use Rattle.trie.specs.Shown.{Shown, Agrees, string_count};
 ghost use Rattle.trie.specs.Meant.{size_from, single_from};
 
-use crate::nodes::BITS;
 use crate::tree::Tree;
 use engines::engine::Engine;
 use fields::faults::Fault;
@@ -71,10 +70,15 @@ impl Told<Prefix> for Trie {
 
     fn set(&mut self, place: u8, value: Prefix) -> Result<(), Fault> {
         let row = value.row();
-        let mut path = [0; BITS];
-        let end = self.tree.seek(row, &mut path);
-        check_set(place, &[], self.tree.row(place), self.tree.holder(row, end))?;
-        self.tree.put(place, row, end);
+        let path = self.tree.walk(row.address, row.length);
+        let path = path.as_slice();
+        check_set(
+            place,
+            &[],
+            self.tree.row(place),
+            self.tree.holder(row, path),
+        )?;
+        self.tree.put(place, row, path);
         Ok(())
     }
 

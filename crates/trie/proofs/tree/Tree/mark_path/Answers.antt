@@ -1,57 +1,45 @@
-use Rattle.std.proofs.Common.{◌≡◌, ℕ, ◌+◌, Bool, false, ◌||◌, length, get_or, Some, None, sym, ap, ◌∙◌, arith}
-use mathlib.Core.Logic.{∥∥₁_elim, ∥∥₁_map}
+use Rattle.std.proofs.Common.{◌≡◌, ℕ, Bool, List, false, ◌||◌, length, get_or, sym, ap, ◌∙◌, subst, arith}
+use mathlib.Core.Logic.{∥∥₁_elim}
 use mathlib.Core.Bool.{Bool-set}
-use Rattle.trie.specs.Strings.{bit_after, codes}
-use Rattle.trie.specs.Trees.{at, child}
-use Rattle.trie.proofs.Walks.{inside, at_root, stands_on, met, met_none, marks_on, found_length, stops, all_met}
+use native.Mathlib.Bridge.{le_prop}
+use Rattle.trie.specs.Strings.{codes}
+use Rattle.trie.specs.Trees.{Walked}
+use Rattle.trie.proofs.Walks.{passing, passing_within, met, met_none, marks_on, all_passed, all_met}
 use Rattle.trie.proofs.tree.Tree.mark_path.Goals as goal
 
-pub loop-depth-init : goal.loop-depth-init
-loop-depth-init c = (∥∥₁_map c.args.self.now.sound (at_root c.args.self.now.tables c.args.address (omega arith)), c.told-marks, λ m h. met_none (codes c.args.self.now.tables.rows m) c.args.address (get_or c.args.marks.now m false))
+pub loop-node-init : goal.loop-node-init
+loop-node-init c = (c.told-marks, λ m h. met_none (codes c.args.self.now.tables.rows m) c.args.address (get_or c.args.marks.now m false))
 
 pub bounds-self-node : goal.bounds-self-node
-bounds-self-node c = inside c.args.self.now.tables c.args.address c.loop-depth.node c.loop-depth.depth c.loop-depth.invariant.0
+bounds-self-node c =
+    let t = c.args.self.now.tables in
+    let path = c.as_slice-node-items.result.now in
+    let walked : ∥ Walked t c.args.address 32 path ∥₁ = subst (λ (xs : List ℕ). ∥ Walked t c.args.address 32 xs ∥₁) (sym c.as_slice-node-items.ensures.value) c.walk-path.ensures in
+    ∥∥₁_elim walked le_prop (λ w. passing_within t c.args.address 32 path c.loop-node.node-index w c.loop-node-test.true)
 
-pub returns-in_default : goal.returns-in_default
-returns-in_default c =
+pub loop-node-preserved : goal.loop-node-preserved
+loop-node-preserved c =
     let t = c.args.self.now.tables in
     let a = c.args.address in
-    let k = c.loop-depth.depth in
-    let i = c.loop-depth.node in
-    let inv = c.loop-depth.invariant in
-    let gap : child (at t.nodes i) (bit_after a k) ≡ None = ap (child (at t.nodes i)) (sym c.bit_after.ensures.bit) ∙ c.in_default.is in
-    λ l ll. ∥∥₁_elim inv.0 (Bool-set _ _) (λ s.
-    let was = get_or c.args.marks.now l false in
-    marks_on t a i k l was c.loop-depth.marks c.mark.new.marks inv.0 (omega arith) c.mark.ensures (inv.2 l ll)
-    ∙ ap (λ (x : Bool). was || x) (stops t a i k l s (omega arith) gap)
-    ∙ all_met t a l was s.good (omega arith))
-
-pub loop-depth-preserved : goal.loop-depth-preserved
-loop-depth-preserved c =
-    let t = c.args.self.now.tables in
-    let a = c.args.address in
-    let k = c.loop-depth.depth in
-    let i = c.loop-depth.node in
-    let inv = c.loop-depth.invariant in
-    let e : child (at t.nodes i) (bit_after a k) ≡ Some c.in-Some.child = ap (child (at t.nodes i)) (sym c.bit_after.ensures.bit) ∙ c.in-Some.is in (
-      ∥∥₁_map inv.0 (λ s. stands_on t a i k c.in-Some.child s (omega arith) e),
-      ap length c.mark.ensures ∙ found_length c.loop-depth.marks (at t.nodes i).label ∙ inv.1,
-      λ l ll. marks_on t a i k l (get_or c.args.marks.now l false) c.loop-depth.marks c.mark.new.marks inv.0 (omega arith) c.mark.ensures (inv.2 l ll),
+    let k = c.loop-node.node-index in
+    let path = c.as_slice-node-items.result.now in
+    let i = get_or path k 0 in
+    let inv = c.loop-node.invariant in
+    let walked : ∥ Walked t a 32 path ∥₁ = subst (λ (xs : List ℕ). ∥ Walked t a 32 xs ∥₁) (sym c.as_slice-node-items.ensures.value) c.walk-path.ensures in (
+      c.mark.array_long,
+      λ l ll. ∥∥₁_elim walked (Bool-set _ _) (λ w. marks_on t a i k l (get_or c.args.marks.now l false) c.loop-node.marks c.mark.new.marks (passing t a 32 path k w c.loop-node-test.true) (omega arith) c.mark.ensures (inv.1 l ll)),
     )
-
-pub bounds-self-node-2 : goal.bounds-self-node-2
-bounds-self-node-2 c = inside c.args.self.now.tables c.args.address c.loop-depth.node c.loop-depth.depth c.loop-depth.invariant.0
 
 pub returns : goal.returns
 returns c =
     let t = c.args.self.now.tables in
     let a = c.args.address in
-    let k = c.loop-depth.depth in
-    let i = c.loop-depth.node in
-    let inv = c.loop-depth.invariant in
-    λ l ll. ∥∥₁_elim inv.0 (Bool-set _ _) (λ s.
+    let path = c.as_slice-node-items.result.now in
+    let all : c.loop-node.node-index ≡ length path = omega arith in
+    let walked : ∥ Walked t a 32 path ∥₁ = subst (λ (xs : List ℕ). ∥ Walked t a 32 xs ∥₁) (sym c.as_slice-node-items.ensures.value) c.walk-path.ensures in
+    λ l ll. ∥∥₁_elim walked (Bool-set _ _) (λ w.
     let was = get_or c.args.marks.now l false in
-    let d : k + 1 ≡ 33 = omega arith in
-    marks_on t a i k l was c.loop-depth.marks c.mark-2.new.marks inv.0 (omega arith) c.mark-2.ensures (inv.2 l ll)
-    ∙ ap (λ (x : ℕ). was || met (codes t.rows l) a x) d
-    ∙ all_met t a l was s.good (omega arith))
+    c.loop-node.invariant.1 l ll
+    ∙ ap (λ (k : ℕ). was || met (codes t.rows l) a k) all
+    ∙ ap (λ (b : Bool). was || b) (all_passed t a l path w)
+    ∙ all_met t a l was w.good (omega arith))

@@ -1,4 +1,4 @@
-use Rattle.std.proofs.Common.{◌≡◌, List, get_or, None, Option, sym, ap, ◌∙◌}
+use Rattle.std.proofs.Common.{◌≡◌, ◌-◌, List, length, get_or, None, Option, sym, ap, ◌∙◌, arith}
 use mathlib.Core.Logic.{∥∥₁_elim, ∥∥₁_map}
 use native.Mathlib.Bridge.{le_prop}
 use Rattle.fields.specs.declared.prefixes.PrefixRow.{PrefixRow}
@@ -7,10 +7,12 @@ use Rattle.trie.proofs.Growth.{starts, within, filled}
 use Rattle.trie.proofs.tree.Tree.put.Goals as goal
 
 pub grow-last-requires : goal.grow-last-requires
-grow-last-requires c = record {
-  within = ∥∥₁_elim c.requires.walked le_prop (λ w. w.within);
-  growing = ∥∥₁_map c.requires.walked (λ w. starts c.args.self.now.tables c.args.row c.args.end.node c.args.end.depth c.args.place w c.requires.within c.requires.vacant);
-}
+grow-last-requires c =
+    let path = c.args.path.now in
+    record {
+      within = ∥∥₁_elim c.requires.walked le_prop (λ w. omega (arith, w.within));
+      growing = ∥∥₁_map c.requires.walked (λ w. starts c.args.self.now.tables c.args.row path (length path - 1) c.args.place c.requires.lawful w (omega (arith, w.some)) c.requires.within c.requires.vacant);
+    }
 
 pub bounds-self-last : goal.bounds-self-last
 bounds-self-last c = ∥∥₁_elim c.grow-last.ensures.grown le_prop (within c.grow-last.new.self c.args.row c.grow-last.result c.args.row.length)

@@ -1,5 +1,4 @@
 use Rattle.std.proofs.Common.{◌≡◌, ℕ, List, [], get_or, set, Some, None, Err, Option, sym, refl, ap, ◌∙◌, subst, arith, rules}
-use mathlib.Core.Logic.{∥∥₁_map}
 use Rattle.fields.specs.declared.faults.Fault.{Fault}
 use Rattle.fields.specs.declared.prefixes.Prefix.{Prefix}
 use Rattle.fields.specs.declared.prefixes.PrefixRow.{PrefixRow}
@@ -7,12 +6,16 @@ use Rattle.fields.specs.Faults.{answer, unless}
 use Rattle.parts.specs.Meaning.{Meaning, set_fault, put}
 use Rattle.parts.specs.Checks.{set_refusal}
 use Rattle.trie.specs.Shown.{rows_of, Shown}
-use Rattle.trie.specs.Meant.{map_rows_set}
+use Rattle.trie.specs.Trees.{Lawful, Walked}
+use Rattle.trie.specs.Meant.{lawful_value, map_rows_set}
 use Rattle.trie.proofs.Placed.{equal, no_labels, refused, settable, same_refusal, new_from}
 use Rattle.trie.proofs.tries.TrieToldPrefix.set.Goals as goal
 
 pub holder-requires : goal.holder-requires
-holder-requires c = record { walked = ∥∥₁_map c.seek-end.ensures (λ w. w.ends) }
+holder-requires c = record {
+  lawful = subst Lawful (sym c.row-row.ensures) (lawful_value c.args.value);
+  walked = subst (λ (xs : List ℕ). ∥ Walked c.args.self.now.tree.tables c.row-row.result.address c.row-row.result.length xs ∥₁) (sym c.as_slice-path.ensures.value) c.walk-path.ensures;
+}
 
 pub returns-in_err-check_set : goal.returns-in_err-check_set
 returns-in_err-check_set c =
@@ -39,7 +42,8 @@ put-requires c =
     let ok = settable p (get_or rows p None) found (sym c.in_ok-check_set.was ∙ c.check_set.ensures ∙ ap (λ (o : Option PrefixRow). answer (set_refusal p [] o found) tt) c.row.ensures) in
     record {
       within = ok.0;
-      walked = ∥∥₁_map c.seek-end.ensures (λ w. w.ends);
+      lawful = subst Lawful (sym c.row-row.ensures) (lawful_value c.args.value);
+      walked = subst (λ (xs : List ℕ). ∥ Walked c.args.self.now.tree.tables c.row-row.result.address c.row-row.result.length xs ∥₁) (sym c.as_slice-path.ensures.value) c.walk-path.ensures;
       vacant = ok.1;
       new = new_from rows c.args.value c.row-row.result c.row-row.ensures found c.holder.ensures ok.2;
     }
