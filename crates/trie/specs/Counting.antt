@@ -2,8 +2,12 @@
 use Rattle.std.specs.Prelude.{◌≡◌, ℕ, zero, suc, ◌+◌, ◌*◌, ◌≤◌, Bool, true, false, cond, ◌⊎◌, List, [], ◌∷◌, ◌++◌, length, Some, None, Option, ◌==◌, ◌≢◌, nat_eq, slice_index_or, refl}
 use Rattle.std.proofs.Common.{sym, ap, subst, ◌∙◌, inl, inr, ⊎_elim, arith, length-append}
 use Rattle.std.proofs.lemmas.Bool.{cases_eq, cases_Bool, eq-eqb, ne_eqb, eqb-true, or_cases, or_left, or_right, cond-true, cond-false}
+use Rattle.std.specs.List.{AllByRecursion, IsDistinct}
+use Rattle.std.specs.Set.{distinct_count, is_member}
+use Rattle.std.specs.Cmp.{both_ways, nat_eq_equiv}
+use Rattle.std.proofs.lemmas.Map.Made.{length-le_from_is_member, length-from_keys}
 use Rattle.fields.specs.declared.prefixes.PrefixRow.{PrefixRow}
-use Rattle.trie.specs.Strings.{first_strings, beginnings, all_beginnings, has, different, Among, Distinct, Begins}
+use Rattle.trie.specs.Strings.{first_strings, beginnings, all_beginnings, Among, Distinct, Begins}
 use Rattle.trie.specs.Trees.{LawfulAt}
 
 -- a list without the first x in it
@@ -55,57 +59,30 @@ without_distinct x (y ∷ ys) d = ⊎_elim
     (λ (n : x ≡ y → ⊥). subst Distinct (sym (without_past x y ys n)) ((λ r. d.0 (without_only x y ys r)), without_distinct x ys d.1))
     (cases_eq x y)
 
+-- in the library's words
+among : (x : ℕ) (xs : List ℕ) → is_member nat_eq xs x ≡ true → Among x xs
+among x [] h = absurd (let z : ◌≡◌ {A = ℕ} 0 1 = cc in omega arith)
+among x (y ∷ ys) h = ⊎_elim (λ (e : nat_eq x y ≡ true). inl (eqb-true x y e)) (λ (e : is_member nat_eq ys x ≡ true). inr (among x ys e)) (or_cases (x == y) (is_member nat_eq ys x) h)
+
+member : (x : ℕ) (xs : List ℕ) → Among x xs → is_member nat_eq xs x ≡ true
+member x [] h = absurd h
+member x (y ∷ ys) h = ⊎_elim (λ (e : x ≡ y). or_left (x == y) (is_member nat_eq ys x) (eq-eqb x y e)) (λ (r : Among x ys). or_right (x == y) (is_member nat_eq ys x) (member x ys r)) h
+
+apart : (x : ℕ) (ys : List ℕ) → (Among x ys → ⊥) → AllByRecursion (λ y. nat_eq x y ≡ false) ys
+apart x [] h = tt
+apart x (y ∷ ys) h = (ne_eqb x y (λ e. h (inl e)), apart x ys (λ r. h (inr r)))
+
+keys : (xs : List ℕ) → Distinct xs → IsDistinct nat_eq xs
+unfolding IsDistinct
+keys [] d = tt
+keys (x ∷ xs) d = (apart x xs d.0, keys xs d.1)
+
 pub part_length : (xs ys : List ℕ) → Distinct xs → ((x : ℕ) → Among x xs → Among x ys) → length xs ≤ length ys
-part_length [] ys d h = omega arith
-part_length (x ∷ xs) ys d h =
-    let r : length xs ≤ length (without x ys) = part_length xs (without x ys) d.1 (λ z m. without_keeps x z ys (λ e. d.0 (subst (λ (w : ℕ). Among w xs) e m)) (h z (inr m))) in
-    omega (arith, without_length x ys (h x (inl refl)))
-
--- a list and its different elements
-has_among : (x : ℕ) (xs : List ℕ) → has x xs ≡ true → Among x xs
-has_among x [] h = absurd (let z : ◌≡◌ {A = ℕ} 0 1 = cc in omega arith)
-has_among x (y ∷ ys) h = ⊎_elim (λ (e : nat_eq x y ≡ true). inl (eqb-true x y e)) (λ (e : has x ys ≡ true). inr (has_among x ys e)) (or_cases (x == y) (has x ys) h)
-
-among_has : (x : ℕ) (xs : List ℕ) → Among x xs → has x xs ≡ true
-among_has x [] h = absurd h
-among_has x (y ∷ ys) h = ⊎_elim (λ (e : x ≡ y). or_left (x == y) (has x ys) (eq-eqb x y e)) (λ (r : Among x ys). or_right (x == y) (has x ys) (among_has x ys r)) h
-
-different_again : (x : ℕ) (xs : List ℕ) → has x xs ≡ true → different (x ∷ xs) ≡ different xs
-different_again x xs e = cond-true (has x xs) (different xs) (x ∷ different xs) e
-
-different_new : (x : ℕ) (xs : List ℕ) → has x xs ≡ false → different (x ∷ xs) ≡ x ∷ different xs
-different_new x xs e = cond-false (has x xs) (different xs) (x ∷ different xs) e
-
-different_all : (z : ℕ) (xs : List ℕ) → Among z xs → Among z (different xs)
-different_all z [] h = h
-different_all z (x ∷ xs) h = ⊎_elim
-    (λ (e : has x xs ≡ true). subst (Among z) (sym (different_again x xs e)) (⊎_elim (λ (q : z ≡ x). different_all z xs (subst (λ (w : ℕ). Among w xs) (sym q) (has_among x xs e))) (λ (r : Among z xs). different_all z xs r) h))
-    (λ (e : has x xs ≡ false). subst (Among z) (sym (different_new x xs e)) (⊎_elim (λ (q : z ≡ x). inl q) (λ (r : Among z xs). inr (different_all z xs r)) h))
-    (cases_Bool (has x xs))
-
-different_only : (z : ℕ) (xs : List ℕ) → Among z (different xs) → Among z xs
-different_only z [] h = h
-different_only z (x ∷ xs) h = ⊎_elim
-    (λ (e : has x xs ≡ true). inr (different_only z xs (subst (Among z) (different_again x xs e) h)))
-    (λ (e : has x xs ≡ false). ⊎_elim (λ (q : z ≡ x). inl q) (λ (r : Among z (different xs)). inr (different_only z xs r)) (subst (Among z) (different_new x xs e) h))
-    (cases_Bool (has x xs))
-
-different_distinct : (xs : List ℕ) → Distinct (different xs)
-different_distinct [] = tt
-different_distinct (x ∷ xs) = ⊎_elim
-    (λ (e : has x xs ≡ true). subst Distinct (sym (different_again x xs e)) (different_distinct xs))
-    (λ (e : has x xs ≡ false). subst Distinct (sym (different_new x xs e)) ((λ r. let z : ◌≡◌ {A = Bool} true false = sym (among_has x xs (different_only x xs r)) ∙ e in absurd (let w : ◌≡◌ {A = ℕ} 0 1 = cc in omega arith)), different_distinct xs))
-    (cases_Bool (has x xs))
+part_length xs ys d h = length-le_from_is_member nat_eq_equiv xs ys (keys xs d) (λ q e. member q ys (h q (among q xs e)))
 
 -- the length of a list without repetition that has the same elements
-pub count_different : (ks xs : List ℕ) → Distinct ks → ((v : ℕ) → Among v ks → Among v xs) → ((v : ℕ) → Among v xs → Among v ks) → length ks ≡ length (different xs)
-count_different ks xs d f g =
-    let up : length ks ≤ length (different xs) = part_length ks (different xs) d (λ v m. different_all v xs (f v m)) in
-    let down : length (different xs) ≤ length ks = part_length (different xs) ks (different_distinct xs) (λ v m. g v (different_only v xs m)) in
-    omega arith
-
-pub different_few : (xs : List ℕ) → length (different xs) ≤ length xs
-different_few xs = part_length (different xs) xs (different_distinct xs) (λ v m. different_only v xs m)
+pub count_different : (ks xs : List ℕ) → Distinct ks → ((v : ℕ) → Among v ks → Among v xs) → ((v : ℕ) → Among v xs → Among v ks) → length ks ≡ distinct_count nat_eq xs
+count_different ks xs d f g = length-from_keys nat_eq_equiv ks xs (keys ks d) (λ q. both_ways (is_member nat_eq ks q) (is_member nat_eq xs q) (λ e. member q xs (f q (among q ks e))) (λ e. member q ks (g q (among q xs e))))
 
 -- the beginnings of all held prefixes
 among_left : (v : ℕ) (xs ys : List ℕ) → Among v xs → Among v (xs ++ ys)

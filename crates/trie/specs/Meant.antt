@@ -1,15 +1,17 @@
 -- The values at the places, and their rows.
-use Rattle.std.specs.Prelude.{◌≡◌, ℕ, zero, suc, ◌+◌, ◌<◌, Bool, true, false, List, [], ◌∷◌, ◌++◌, length, Some, None, Decides, Option, ◌≢◌, slice_index_or, slice_set, refl}
+use Rattle.std.specs.Prelude.{◌≡◌, ℕ, zero, suc, ◌+◌, ◌<◌, Bool, true, false, List, [], ◌∷◌, ◌++◌, length, Some, None, Decides, Option, ◌≢◌, slice_index_or, slice_set, nat_eq, refl}
 use Rattle.std.proofs.Common.{sym, ap, subst, ◌∙◌, ⊎_elim, arith}
 use Rattle.std.proofs.Math.Logic.{∥∥₁_elim}
 use Rattle.std.proofs.Math.Nat.{ℕ_set}
 use Rattle.std.proofs.lemmas.List.{length-map}
 use Rattle.std.proofs.lemmas.Bool.{cases_Bool, cond-true, cond-false}
+use Rattle.std.specs.Set.{distinct_count}
+use Rattle.std.proofs.lemmas.Map.Made.{distinct_count-le}
 use Rattle.fields.specs.declared.prefixes.Prefix.{Prefix}
 use Rattle.fields.specs.declared.prefixes.PrefixRow.{PrefixRow}
 use Rattle.parts.specs.Meaning.{at, find_from}
 use Rattle.trie.specs.declared.nodes.Tables.{Tables}
-use Rattle.trie.specs.Strings.{code, codes, beginnings, all_beginnings, different, row_count}
+use Rattle.trie.specs.Strings.{code, codes, beginnings, all_beginnings, row_count}
 use Rattle.trie.specs.Trees.{Lawful, LawfulAt, Good}
 use Rattle.trie.specs.Shown.{row_of, rows_of}
 use Rattle.trie.specs.Bitstrings.{same_code, string_pos}
@@ -51,7 +53,7 @@ all_none [] h = refl
 all_none (o ∷ os) h = ap (λ (x : Option Prefix). beginnings (row_of x) ++ all_beginnings (rows_of os)) (h 0) ∙ all_none os (λ l. h (suc l))
 
 pub none_counted : (places : List (Option Prefix)) → ((l : ℕ) → slice_index_or places l None ≡ None) → row_count (rows_of places) ≡ 0
-none_counted places h = ap (λ (xs : List ℕ). length (different xs)) (all_none places h)
+none_counted places h = omega (arith, ap (distinct_count nat_eq) (all_none places h), distinct_count-le nat_eq [])
 
 -- where a value is found
 module _ {V : Type 0} (eq : V → V → Bool) (decides : (a b : V) → Decides (eq a b) (a ≡ b)) (v : V) where

@@ -1,5 +1,6 @@
 -- Bit strings as numbers: a 1 and then the bits, so the empty string is 1, and v goes on as 2 v or 2 v + 1.
-use Rattle.std.specs.Prelude.{◌≡◌, ℕ, zero, suc, ◌+◌, ◌-◌, ◌/◌, ◌%◌, ◌^◌, Bool, false, cond, ◌||◌, ◌⊎◌, List, [], ◌∷◌, ◌++◌, length, Some, None, Option, ◌==◌, slice_index_or}
+use Rattle.std.specs.Prelude.{◌≡◌, ℕ, zero, suc, ◌+◌, ◌-◌, ◌/◌, ◌%◌, ◌^◌, Bool, false, cond, ◌||◌, ◌⊎◌, List, [], ◌∷◌, ◌++◌, length, Some, None, Option, ◌==◌, nat_eq, slice_index_or}
+use Rattle.std.specs.Set.{distinct_count}
 use Rattle.fields.specs.declared.prefixes.PrefixRow.{PrefixRow}
 use Rattle.fields.specs.Prefixes.{first_bits}
 
@@ -33,18 +34,9 @@ abbrev pub all_beginnings : List (Option PrefixRow) → List ℕ
 all_beginnings [] = []
 all_beginnings (o ∷ os) = beginnings o ++ all_beginnings os
 
--- a list without its repetitions
-abbrev pub has : ℕ → List ℕ → Bool
-has x [] = false
-has x (y ∷ ys) = x == y || has x ys
-
-abbrev pub different : List ℕ → List ℕ
-different [] = []
-different (x ∷ xs) = cond (has x xs) (different xs) (x ∷ different xs)
-
 -- how many different strings held prefixes begin with
 abbrev pub row_count : List (Option PrefixRow) → ℕ
-row_count rows = length (different (all_beginnings rows))
+row_count rows = distinct_count nat_eq (all_beginnings rows)
 
 -- x is one of them
 abbrev pub Among : ℕ → List ℕ → Type 0

@@ -7,6 +7,7 @@ use crate::nodes::{Node, Tables};
 use crate::tree::Tree;
 use crate::walk::bit_after;
 use fields::prefixes::PrefixRow;
+use parts::marks::PLACES;
 
 impl Tables {
     // Takes a free node for the next bit of a prefix.
@@ -72,7 +73,7 @@ impl Tables {
 impl Tree {
     // Puts a prefix that no place holds at an empty place, by the walk towards it.
     pub fn put(&mut self, place: u8, row: PrefixRow, path: &[u16])
-        requires within { place < 96 }
+        requires within { place < PLACES }
         requires lawful { Lawful row }
         requires walked { ∥ Walked self.old.tables row.address row.length path.now ∥₁ }
         requires vacant { slice_index_or self.old.tables.rows place None ≡ None }
@@ -87,7 +88,7 @@ impl Tree {
 
     // Empties the place that holds a prefix.
     pub fn remove(&mut self, place: u8, row: PrefixRow)
-        requires within { place < 96 }
+        requires within { place < PLACES }
         requires held { slice_index_or self.old.tables.rows place None ≡ Some row }
         ensures { self.new.tables.rows ≡ slice_set self.old.tables.rows place None }
     {

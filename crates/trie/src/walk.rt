@@ -11,7 +11,7 @@ use parts::marks::{PLACES, mark};
 
 // The bit of an address that follows its first `depth`.
 pub fn bit_after(address: u32, depth: u8) -> usize
-    requires { depth < 32 }
+    requires { depth < BITS }
     ensures bit { result ≡ bit_after address depth }
     ensures below { result < 2 }
 {
@@ -21,7 +21,7 @@ pub fn bit_after(address: u32, depth: u8) -> usize
 impl Tree {
     // The nodes on the way towards the first `length` bits of an address, as far as there are nodes, the root first.
     pub fn walk(&self, address: u32, length: u8) -> ArrayVec<u16, STEPS>
-        requires { length ≤ 32 }
+        requires { length ≤ BITS }
         ensures { ∥ Walked self.now.tables address length result.items ∥₁ }
     {
         let mut path = ArrayVec::new();
