@@ -2,10 +2,19 @@
 use Rattle.std.specs.Prelude.{◌≡◌, ℕ, ◌+◌, ◌*◌, ◌/◌, ◌^◌, ◌<◌, ◌≤◌, Bool, false, ◌&&◌, ◌⊎◌, List, [], ◌∷◌, length, Some, None, Option, ◌==◌, ◌≢◌, slice_index, slice_index_or, slice_set, is_none}
 use Rattle.std.specs.List.{list_all}
 use Rattle.fields.specs.declared.prefixes.PrefixRow.{PrefixRow}
+use Rattle.parts.specs.Meaning.{place_count}
 use Rattle.fields.specs.Prefixes.{other_bits, prefix_takes}
 use Rattle.trie.specs.declared.nodes.Node.{Node}
 use Rattle.trie.specs.declared.nodes.Tables.{Tables}
 use Rattle.trie.specs.Strings.{string, bit_after, codes, first_strings, Among, Distinct, Begins}
+
+-- as many non-empty strings as the prefixes of all places begin with at most, 32 each
+abbrev pub below_root : ℕ
+below_root = place_count * 32
+
+-- with the root
+abbrev pub node_count : ℕ
+node_count = below_root + 1
 
 -- nodes, their children and labels
 
@@ -42,9 +51,9 @@ Whole key nodes v = (i b j : ℕ) → 0 < key i → b < 2 → child (at nodes i)
 
 -- the nodes in use are a tree: a child has one bit more, one string has one node, and each is reached from the root
 pub record Shape (key : ℕ → ℕ) (nodes : List Node) : Type 0 where
-  pub size : length nodes ≡ 3073
+  pub size : length nodes ≡ node_count
   pub both : (i : ℕ) → 0 < key i → length (at nodes i).children ≡ 2
-  pub bound : (i : ℕ) → 0 < key i → i < 3073
+  pub bound : (i : ℕ) → 0 < key i → i < node_count
   pub root : key 0 ≡ 1
   pub next : (i b c : ℕ) → b < 2 → 0 < key i → child (at nodes i) b ≡ Some c → key c ≡ 2 * key i + b
   pub single : (i j : ℕ) → 0 < key i → 0 < key j → key i ≡ key j → i ≡ j
@@ -52,7 +61,7 @@ pub record Shape (key : ℕ → ℕ) (nodes : List Node) : Type 0 where
 
 -- the stack has free nodes, each once
 pub record Stack (key : ℕ → ℕ) (free : List ℕ) : Type 0 where
-  pub low : (n : ℕ) → Among n free → n < 3073
+  pub low : (n : ℕ) → Among n free → n < node_count
   pub some : (n : ℕ) → Among n free → 0 < n
   pub idle : (n : ℕ) → Among n free → key n ≡ 0
   pub once : Distinct free
@@ -62,10 +71,10 @@ pub record Named (key : ℕ → ℕ) (nodes : List Node) (c : ℕ → ℕ) : Typ
   pub reached : (l : ℕ) → Whole key nodes (c l)
   pub names : (i l : ℕ) → 0 < key i → is (at nodes i).label l ≡ (c l == key i)
 
--- ks are the strings of the nodes below the root; with the free ones there are 3,072
+-- ks are the strings of the nodes below the root; with the free ones there are as many as can be needed
 pub record Listed (key : ℕ → ℕ) (ks : List ℕ) (spare : ℕ) : Type 0 where
   pub once : Distinct ks
-  pub many : length ks + spare ≡ 3072
+  pub many : length ks + spare ≡ below_root
   pub each : (i : ℕ) → 0 < i → 0 < key i → Among (key i) ks
   pub only : (v : ℕ) → Among v ks → (i : ℕ) × (0 < i) × (0 < key i) × (key i ≡ v)
 
@@ -84,7 +93,7 @@ pub record Frame (t : Tables) (key : ℕ → ℕ) (ks : List ℕ) : Type 0 where
   pub stack : Stack key t.free.items
   pub named : Named key t.nodes (codes t.rows)
   pub listed : Listed key ks (length t.free.items)
-  pub size : length t.rows ≡ 96
+  pub size : length t.rows ≡ place_count
   pub lawful : (l : ℕ) → LawfulAt (slice_index_or t.rows l None)
 
 -- a node is written, a place is written
@@ -126,7 +135,7 @@ pub record Growing (t : Tables) (row : PrefixRow) (node depth : ℕ) : Type 0 wh
   pub nearly : Nearly t.rows row.address row.length key
   pub for : key node ≡ string row.address depth
   pub stops : depth < row.length → child (at t.nodes node) (bit_after row.address depth) ≡ None
-  pub vacant : (p : ℕ) × (p < 96) × (slice_index_or t.rows p None ≡ None)
+  pub vacant : (p : ℕ) × (p < place_count) × (slice_index_or t.rows p None ≡ None)
 
 -- nodes of a prefix that is no longer held are being freed, down to depth
 pub record Trimming (t : Tables) (row : PrefixRow) (path : List ℕ) (depth : ℕ) : Type 0 where
