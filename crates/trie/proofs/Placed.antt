@@ -54,14 +54,14 @@ not_taken true l o e h = inl refl
 not_taken false l None e h = inr refl
 not_taken false l (Some v) e h = absurd (let z : ◌≡◌ {A = ℕ} 0 1 = cc in omega arith)
 
-pub settable : (l : ℕ) (held : Option PrefixRow) (found : Option ℕ) → ◌≡◌ {A = Result (Unit {0}) Fault} (Ok tt) (answer (set_refusal l [] held found) tt) → (l < 96) × (held ≡ None) × (found ≡ None) × (set_refusal l [] held found ≡ None)
-settable l held found e =
-    let f = unfaulted {A = Unit {0}} (set_refusal l [] held found) tt tt e in
+pub settable : (l : ℕ) (held read : Option PrefixRow) (found : Option ℕ) → read ≡ held → ◌≡◌ {A = Result (Unit {0}) Fault} (Ok tt) (answer (set_refusal l [] read found) tt) → (l < 96) × (held ≡ None) × (found ≡ None) × (set_refusal l [] held found ≡ None)
+settable l held read found same e =
+    let f = unfaulted {A = Unit {0}} (set_refusal l [] held found) tt tt (e ∙ ap (λ (o : Option PrefixRow). answer (set_refusal l [] o found) tt) same) in
     let r = nothing_wrong (ltb 95 l) (Label l) (Full l) held found f in
     (omega (arith, ltb-false 95 l r.0), r.1, r.2, f)
 
-pub cleared_row : (l : ℕ) (held : Option PrefixRow) (row : PrefixRow) → Ok row ≡ taken_from l held → (ltb 95 l ≡ false) × (held ≡ Some row)
-cleared_row l held row = taken_row (ltb 95 l) l held row
+pub cleared_row : (l : ℕ) (held read : Option PrefixRow) (row : PrefixRow) → read ≡ held → Ok row ≡ taken_from l read → (ltb 95 l ≡ false) × (held ≡ Some row)
+cleared_row l held read row same e = taken_row (ltb 95 l) l held row (e ∙ ap (taken_from l) same)
 
 pub not_cleared : (rows : List (Option PrefixRow)) (places : List (Option Prefix)) (l : ℕ) (e : Fault) → rows ≡ rows_of places → length places ≡ 96 → Err e ≡ taken_from l (get_or rows l None) → get_or places l None ≡ None
 not_cleared rows places l e held size h = ⊎_elim

@@ -1,6 +1,6 @@
 -- A prefix loses its label and then, from the last up, the nodes that nothing needs.
 use Rattle.std.proofs.Common.{◌≡◌, ℕ, ◌+◌, ◌*◌, ◌<◌, ◌≤◌, true, false, cond, eqb, zero, suc, ◌⊎◌, List, [], ◌∷◌, ◌++◌, length, get_or, set, Some, None, Option, sym, refl, ap, ◌∙◌, subst, inl, inr, ⊎_elim, arith, length-set, length-append}
-use mathlib.Core.Logic.{∥∥₁_elim}
+use mathlib.Core.Logic.{∥∥₁_elim, ∥∥₁_map}
 use native.Mathlib.Bridge.{le_prop}
 use native.Mathlib.Nat.{ℕ_set}
 use Rattle.std.proofs.lemmas.Bool.{cases_lt, eqb-true, eq-eqb, and_parts, and_cases}
@@ -15,12 +15,12 @@ use Rattle.trie.specs.Trees.{at, child, linked, labelled, is, bare, Stack, Liste
 use Rattle.trie.specs.Bitstrings.{shift_none, string_pos, bit_below, string_more, same_length, among_strings, strings_among}
 use Rattle.trie.specs.Counting.{without}
 use Rattle.trie.specs.Uses.{some_or_none}
-use Rattle.trie.proofs.Walks.{reaches}
+use Rattle.trie.proofs.Walks.{passing_within, reaches}
 use Rattle.trie.proofs.Begun.{shorter_begins, parent_begins, own_begins, none_longer, row_at, row_off, lawful_set, begins_off}
 use Rattle.trie.proofs.Freed.{pruned, pruned_names, pruned_still, pruned_keeps, pruned_listed, pruned_stack}
 use Rattle.trie.specs.Relabelled.{relabelled, wiped_names}
 
-pub wiped : (t : Tables) (row : PrefixRow) (path : List ℕ) (p : ℕ) → Lawful row → Walked t row.address row.length path → p < 96 → get_or t.rows p None ≡ Some row
+wiped : (t : Tables) (row : PrefixRow) (path : List ℕ) (p : ℕ) → Lawful row → Walked t row.address row.length path → p < 96 → get_or t.rows p None ≡ Some row
     → Trimming record { rows = set t.rows p None; nodes = set t.nodes (get_or path row.length 0) (labelled (at t.nodes (get_or path row.length 0)) None); free = t.free } row path row.length
 wiped t row path p lawful w lp held =
     let g = w.good in
@@ -54,8 +54,20 @@ wiped t row path p lawful w lp held =
 lawful_prop : (r : PrefixRow) → IsProp (Lawful r)
 lawful_prop r a b = λ i. record { short = le_prop a.short b.short i; fits = le_prop a.fits b.fits i; clean = ℕ_set _ _ a.clean b.clean i }
 
-pub held_lawful : (t : Tables) (row : PrefixRow) (p : ℕ) → ∥ Good t ∥₁ → get_or t.rows p None ≡ Some row → Lawful row
-held_lawful t row p e held = ∥∥₁_elim e (lawful_prop row) (λ g. subst LawfulAt held (g.frame.lawful p))
+-- the path of a held prefix
+module _ (t : Tables) (row : PrefixRow) (p : ℕ) (path : List ℕ) (good : ∥ Good t ∥₁) (held : get_or t.rows p None ≡ Some row) where
+  pub held_lawful : Lawful row
+  held_lawful = ∥∥₁_elim good (lawful_prop row) (λ g. subst LawfulAt held (g.frame.lawful p))
+
+  module _ (walk : ∥ Walked t row.address row.length path ∥₁) where
+    pub held_reached : row.length < length path
+    held_reached = ∥∥₁_elim walk le_prop (λ w. reaches t row path p held_lawful w held)
+
+    pub held_within : get_or path row.length 0 < 3073
+    held_within = ∥∥₁_elim walk le_prop (λ w. passing_within t row.address row.length path row.length w held_reached)
+
+    pub held_wiped : p < 96 → ∥ Trimming record { rows = set t.rows p None; nodes = set t.nodes (get_or path row.length 0) (labelled (at t.nodes (get_or path row.length 0)) None); free = t.free } row path row.length ∥₁
+    held_wiped lp = ∥∥₁_map walk (λ w. wiped t row path p held_lawful w lp held)
 
 -- nothing is left to free
 pub trimmed : (t : Tables) (row : PrefixRow) (path : List ℕ) → Trimming t row path 0 → Good t

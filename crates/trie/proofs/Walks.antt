@@ -72,6 +72,10 @@ walked t a n path i k w within stops = record {
       ap (λ (x : ℕ). child (at t.nodes (get_or path x 0)) (bit_after a x)) z ∙ ap (λ (x : ℕ). child (at t.nodes x) (bit_after a k)) w.last ∙ stops (omega arith);
 }
 
+-- the same path under another name
+pub along : (t : Tables) (a n : ℕ) (path shown : List ℕ) → shown ≡ path → ∥ Walked t a n path ∥₁ → ∥ Walked t a n shown ∥₁
+along t a n path shown e = subst (λ (xs : List ℕ). ∥ Walked t a n xs ∥₁) (sym e)
+
 -- the nodes of a path
 abbrev pub passing : (t : Tables) (a n : ℕ) (path : List ℕ) (j : ℕ) → Walked t a n path → j < length path → Standing t a (get_or path j 0) j
 passing t a n path j w lj = record { good = w.good; for = w.passed j lj }

@@ -15,6 +15,7 @@ pub struct Tree {
     ghost sound: { ∥ Good tables ∥₁ },
 }
 
+// All nodes but the root.
 fn all_below_root() -> ArrayVec<u16, BELOW_ROOT>
     ensures many { length result.items ≡ BELOW_ROOT }
     ensures rising { (i : ℕ) → i < BELOW_ROOT → slice_index result.items i ≡ i + 1 }

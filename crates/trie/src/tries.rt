@@ -16,6 +16,7 @@ use parts::checks::{check_clear, check_set};
 use parts::marks::{PLACES, write_marked};
 use parts::told::Told;
 
+// The held prefixes, and how often the engine was asked since it was emptied.
 #[derive(Drop)]
 pub struct Trie {
     tree: Tree,

@@ -4,7 +4,7 @@ use mathlib.Core.Bool.{Bool-set}
 use native.Mathlib.Bridge.{le_prop}
 use Rattle.trie.specs.Strings.{codes}
 use Rattle.trie.specs.Trees.{Walked}
-use Rattle.trie.proofs.Walks.{passing, passing_within, met, met_none, marks_on, all_passed, all_met}
+use Rattle.trie.proofs.Walks.{along, passing, passing_within, met, met_none, marks_on, all_passed, all_met}
 use Rattle.trie.proofs.tree.Tree.mark_path.Goals as goal
 
 pub loop-node-init : goal.loop-node-init
@@ -14,7 +14,7 @@ pub bounds-self-node : goal.bounds-self-node
 bounds-self-node c =
     let t = c.args.self.now.tables in
     let path = c.as_slice-node-items.result.now in
-    let walked : ∥ Walked t c.args.address 32 path ∥₁ = subst (λ (xs : List ℕ). ∥ Walked t c.args.address 32 xs ∥₁) (sym c.as_slice-node-items.ensures.value) c.walk-path.ensures in
+    let walked = along t c.args.address 32 c.walk-path.result.items path c.as_slice-node-items.ensures.value c.walk-path.ensures in
     ∥∥₁_elim walked le_prop (λ w. passing_within t c.args.address 32 path c.loop-node.node-index w c.loop-node-test.true)
 
 pub loop-node-preserved : goal.loop-node-preserved
@@ -25,7 +25,7 @@ loop-node-preserved c =
     let path = c.as_slice-node-items.result.now in
     let i = get_or path k 0 in
     let inv = c.loop-node.invariant in
-    let walked : ∥ Walked t a 32 path ∥₁ = subst (λ (xs : List ℕ). ∥ Walked t a 32 xs ∥₁) (sym c.as_slice-node-items.ensures.value) c.walk-path.ensures in (
+    let walked = along t a 32 c.walk-path.result.items path c.as_slice-node-items.ensures.value c.walk-path.ensures in (
       c.mark.array_long,
       λ l ll. ∥∥₁_elim walked (Bool-set _ _) (λ w. marks_on t a i k l (get_or c.args.marks.now l false) c.loop-node.marks c.mark.new.marks (passing t a 32 path k w c.loop-node-test.true) (omega arith) c.mark.ensures (inv.1 l ll)),
     )
@@ -36,7 +36,7 @@ returns c =
     let a = c.args.address in
     let path = c.as_slice-node-items.result.now in
     let all : c.loop-node.node-index ≡ length path = omega arith in
-    let walked : ∥ Walked t a 32 path ∥₁ = subst (λ (xs : List ℕ). ∥ Walked t a 32 xs ∥₁) (sym c.as_slice-node-items.ensures.value) c.walk-path.ensures in
+    let walked = along t a 32 c.walk-path.result.items path c.as_slice-node-items.ensures.value c.walk-path.ensures in
     λ l ll. ∥∥₁_elim walked (Bool-set _ _) (λ w.
     let was = get_or c.args.marks.now l false in
     c.loop-node.invariant.1 l ll

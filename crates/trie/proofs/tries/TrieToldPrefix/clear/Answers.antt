@@ -23,7 +23,7 @@ pub returns-in_err-value : goal.returns-in_err-value
 returns-in_err-value c =
     let t = c.args.self.now.tree.tables in
     let p = c.args.place in
-    let taken = cleared_row p (get_or t.rows p None) c.in_ok-row.row (sym c.in_ok-row.was ∙ c.check_clear.ensures ∙ ap (taken_from p) c.row.ensures) in
+    let taken = cleared_row p (get_or t.rows p None) c.row.result c.in_ok-row.row c.row.ensures (sym c.in_ok-row.was ∙ c.check_clear.ensures) in
     let never : (m : Meaning Prefix) → Shown t.rows c.args.self.now.asked m → ⊥ = λ m s.
     let q = some_from (get_or m.places p None) c.in_ok-row.row (sym (rows_at m.places p) ∙ ap (λ (xs : List (Option PrefixRow)). get_or xs p None) (sym s.held) ∙ taken.1) in
     let e = c.form.ensures.again q.0 q.2 in
@@ -41,14 +41,14 @@ pub remove-requires : goal.remove-requires
 remove-requires c =
     let rows = c.args.self.now.tree.tables.rows in
     let p = c.args.place in
-    let taken = cleared_row p (get_or rows p None) c.in_ok-row.row (sym c.in_ok-row.was ∙ c.check_clear.ensures ∙ ap (taken_from p) c.row.ensures) in
+    let taken = cleared_row p (get_or rows p None) c.row.result c.in_ok-row.row c.row.ensures (sym c.in_ok-row.was ∙ c.check_clear.ensures) in
     record { within = omega (arith, ltb-false 95 p taken.0); held = taken.1 }
 
 pub returns : goal.returns
 returns c =
     let t = c.args.self.now.tree.tables in
     let p = c.args.place in
-    let taken = cleared_row p (get_or t.rows p None) c.in_ok-row.row (sym c.in_ok-row.was ∙ c.check_clear.ensures ∙ ap (taken_from p) c.row.ensures) in
+    let taken = cleared_row p (get_or t.rows p None) c.row.result c.in_ok-row.row c.row.ensures (sym c.in_ok-row.was ∙ c.check_clear.ensures) in
     record {
       result = λ m s.
           let q = some_from (get_or m.places p None) c.in_ok-row.row (sym (rows_at m.places p) ∙ ap (λ (xs : List (Option PrefixRow)). get_or xs p None) (sym s.held) ∙ taken.1) in

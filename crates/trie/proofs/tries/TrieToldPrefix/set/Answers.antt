@@ -6,15 +6,16 @@ use Rattle.fields.specs.Faults.{answer, unless}
 use Rattle.parts.specs.Meaning.{Meaning, set_fault, put}
 use Rattle.parts.specs.Checks.{set_refusal}
 use Rattle.trie.specs.Shown.{rows_of, Shown}
-use Rattle.trie.specs.Trees.{Lawful, Walked}
+use Rattle.trie.specs.Trees.{Lawful}
 use Rattle.trie.specs.Meant.{lawful_value, map_rows_set}
+use Rattle.trie.proofs.Walks.{along}
 use Rattle.trie.proofs.Placed.{equal, no_labels, refused, settable, same_refusal, new_from}
 use Rattle.trie.proofs.tries.TrieToldPrefix.set.Goals as goal
 
 pub holder-requires : goal.holder-requires
 holder-requires c = record {
   lawful = subst Lawful (sym c.row-row.ensures) (lawful_value c.args.value);
-  walked = subst (λ (xs : List ℕ). ∥ Walked c.args.self.now.tree.tables c.row-row.result.address c.row-row.result.length xs ∥₁) (sym c.as_slice-path.ensures.value) c.walk-path.ensures;
+  walked = along c.args.self.now.tree.tables c.row-row.result.address c.row-row.result.length c.walk-path.result.items c.as_slice-path.result.now c.as_slice-path.ensures.value c.walk-path.ensures;
 }
 
 pub returns-in_err-check_set : goal.returns-in_err-check_set
@@ -39,11 +40,11 @@ put-requires c =
     let rows = c.args.self.now.tree.tables.rows in
     let p = c.args.place in
     let found = c.holder.result in
-    let ok = settable p (get_or rows p None) found (sym c.in_ok-check_set.was ∙ c.check_set.ensures ∙ ap (λ (o : Option PrefixRow). answer (set_refusal p [] o found) tt) c.row.ensures) in
+    let ok = settable p (get_or rows p None) c.row.result found c.row.ensures (sym c.in_ok-check_set.was ∙ c.check_set.ensures) in
     record {
       within = ok.0;
       lawful = subst Lawful (sym c.row-row.ensures) (lawful_value c.args.value);
-      walked = subst (λ (xs : List ℕ). ∥ Walked c.args.self.now.tree.tables c.row-row.result.address c.row-row.result.length xs ∥₁) (sym c.as_slice-path.ensures.value) c.walk-path.ensures;
+      walked = along c.args.self.now.tree.tables c.row-row.result.address c.row-row.result.length c.walk-path.result.items c.as_slice-path.result.now c.as_slice-path.ensures.value c.walk-path.ensures;
       vacant = ok.1;
       new = new_from rows c.args.value c.row-row.result c.row-row.ensures found c.holder.ensures ok.2;
     }
@@ -55,7 +56,7 @@ returns c =
     let v = c.args.value in
     let row = c.row-row.result in
     let found = c.holder.result in
-    let ok = settable p (get_or rows p None) found (sym c.in_ok-check_set.was ∙ c.check_set.ensures ∙ ap (λ (o : Option PrefixRow). answer (set_refusal p [] o found) tt) c.row.ensures) in
+    let ok = settable p (get_or rows p None) c.row.result found c.row.ensures (sym c.in_ok-check_set.was ∙ c.check_set.ensures) in
     let fault : (m : Meaning Prefix) → Shown rows c.args.self.now.asked m → set_fault equal no_labels m.places p v ≡ None = λ m s. sym (same_refusal rows v row c.row-row.ensures found c.holder.ensures m.places s.held p) ∙ ok.3 in
     record {
       result = λ m s. sym (ap (λ (f : Option Fault). answer f tt) (fault m s));
