@@ -13,7 +13,7 @@ use Rattle.parts.specs.Meaning.{find, full, label_fault, elsewhere, set_fault, t
 use Rattle.parts.specs.Checks.{set_refusal, taken_from}
 use Rattle.parts.specs.Marks.{hit}
 use Rattle.trie.specs.Strings.{code, codes}
-use Rattle.trie.specs.Trees.{is, covers, hits}
+use Rattle.trie.specs.Trees.{is, hits}
 use Rattle.trie.specs.Shown.{row_of, rows_of}
 use Rattle.trie.specs.Uses.{some_or_none}
 use Rattle.trie.specs.Meant.{rows_at, find_none, find_some, code_held, held_code}
@@ -100,9 +100,9 @@ module _ (rows : List (Option PrefixRow)) (v : Prefix) (row : PrefixRow) (own : 
         ∙ ap (λ (f : Option ℕ). first_fault (label_fault (l ∷ []) ∷ when (full (get_or places l None)) (Full l) ∷ elsewhere f ∷ [])) found-is
 
 -- the marks of a walk are the values that take the number
-covers_hit : (a : ℕ) (o : Option Prefix) → covers a (row_of o) ≡ hit (λ v. prefix_takes v.row a) o
-covers_hit a None = refl
-covers_hit a (Some v) = refl
+row_hit : (a : ℕ) (o : Option Prefix) → hit (λ r. prefix_takes r a) (row_of o) ≡ hit (λ v. prefix_takes v.row a) o
+row_hit a None = refl
+row_hit a (Some v) = refl
 
 pub marks_from : (rows : List (Option PrefixRow)) (places : List (Option Prefix)) (a : ℕ) (ms : List Bool) → rows ≡ rows_of places → length places ≡ 96 → length ms ≡ 96 → ((l : ℕ) → l < 96 → get_or ms l false ≡ (get_or (replicate 96 false) l false || hits rows a l)) → ms ≡ map (hit (λ v. prefix_takes v.row a)) places
 marks_from rows places a ms held size few h =
@@ -111,9 +111,9 @@ marks_from rows places a ms held size few h =
     let in-places : l < length places = omega arith in
     h l low
     ∙ ap (λ (b : Bool). b || hits rows a l) (get_or-replicate 96 l false false low)
-    ∙ ap (λ (xs : List (Option PrefixRow)). covers a (get_or xs l None)) held
-    ∙ ap (covers a) (rows_at places l)
-    ∙ covers_hit a (get_or places l None)
+    ∙ ap (λ (xs : List (Option PrefixRow)). hit (λ r. prefix_takes r a) (get_or xs l None)) held
+    ∙ ap (hit (λ (r : PrefixRow). prefix_takes r a)) (rows_at places l)
+    ∙ row_hit a (get_or places l None)
     ∙ sym (get_or-map (hit (λ v. prefix_takes v.row a)) places l None false in-places))
 
 -- one question more

@@ -7,10 +7,11 @@ use Rattle.std.proofs.Math.Seq.{get_or-append_seam}
 use Rattle.std.proofs.lemmas.List.{get_or-set_same, get_or-set_other}
 use Rattle.std.proofs.lemmas.Bool.{cases_eq, cases_lt, eq-eqb, ne_eqb}
 use Rattle.fields.specs.declared.prefixes.PrefixRow.{PrefixRow}
-use Rattle.parts.specs.Marks.{mark_found}
+use Rattle.fields.specs.Prefixes.{prefix_takes}
+use Rattle.parts.specs.Marks.{hit, mark_found}
 use Rattle.trie.specs.declared.nodes.Tables.{Tables}
 use Rattle.trie.specs.Strings.{string, bit_after, code, codes}
-use Rattle.trie.specs.Trees.{at, child, is, Lawful, LawfulAt, Good, Walked, covers, hits}
+use Rattle.trie.specs.Trees.{at, child, is, Lawful, LawfulAt, Good, Walked, hits}
 use Rattle.trie.specs.Bitstrings.{string_pos, string_none, string_more, string_shift, bit_below, same_length}
 
 -- the walk is at the node of the first bits
@@ -188,7 +189,7 @@ met_before v a zero h = refl
 met_before v a (suc k) h = ap (λ (x : Bool). met v a k || x) (ne_eqb v (string a k) (h k (omega arith))) ∙ or_none (met v a k) ∙ met_before v a k (λ m l. h m (omega arith))
 
 -- a prefix is met on the way of an address just if it takes the address
-pub met_covers : (a : ℕ) (o : Option PrefixRow) → a < 2 ^ 32 → LawfulAt o → met (code o) a 33 ≡ covers a o
+pub met_covers : (a : ℕ) (o : Option PrefixRow) → a < 2 ^ 32 → LawfulAt o → met (code o) a 33 ≡ hit (λ (r : PrefixRow). prefix_takes r a) o
 met_covers a None la s = met_before 0 a 33 (λ m l e. omega (arith, string_pos a m))
 met_covers a (Some p) la w =
     let n = p.length in

@@ -1,8 +1,9 @@
 -- What the tables of a trie mean. Which bit string a node stands for is its key, and 0 says that the node is free; keys are not kept in memory.
-use Rattle.std.specs.Prelude.{◌≡◌, ℕ, ◌+◌, ◌*◌, ◌/◌, ◌^◌, ◌<◌, ◌≤◌, Bool, false, ◌&&◌, ◌⊎◌, List, [], ◌∷◌, length, Some, None, Option, ◌==◌, ◌≢◌, slice_index, slice_index_or, slice_set, is_none}
+use Rattle.std.specs.Prelude.{◌≡◌, ℕ, ◌+◌, ◌*◌, ◌/◌, ◌^◌, ◌<◌, ◌≤◌, Bool, false, ◌&&◌, ◌⊎◌, List, [], ◌∷◌, length, Some, None, Option, ◌==◌, ◌≢◌, slice_index, slice_index_or, slice_set, is_none, IfSome}
 use Rattle.std.specs.List.{list_all}
 use Rattle.fields.specs.declared.prefixes.PrefixRow.{PrefixRow}
 use Rattle.parts.specs.Meaning.{place_count}
+use Rattle.parts.specs.Marks.{hit}
 use Rattle.fields.specs.Prefixes.{other_bits, prefix_takes}
 use Rattle.trie.specs.declared.nodes.Node.{Node}
 use Rattle.trie.specs.declared.nodes.Tables.{Tables}
@@ -85,8 +86,7 @@ pub record Lawful (r : PrefixRow) : Type 0 where
   pub clean : other_bits r.length r.address ≡ 0
 
 abbrev pub LawfulAt : Option PrefixRow → Type 0
-LawfulAt None = Unit {0}
-LawfulAt (Some r) = Lawful r
+LawfulAt o = IfSome o Lawful
 
 pub record Frame (t : Tables) (key : ℕ → ℕ) (ks : List ℕ) : Type 0 where
   pub shape : Shape key t.nodes
@@ -148,9 +148,5 @@ pub record Trimming (t : Tables) (row : PrefixRow) (path : List ℕ) (depth : �
   pub passed : (j : ℕ) → j ≤ depth → key (slice_index path j) ≡ string row.address j
 
 -- whether a place holds a prefix that takes the address
-abbrev pub covers : ℕ → Option PrefixRow → Bool
-covers a None = false
-covers a (Some r) = prefix_takes r a
-
 abbrev pub hits : List (Option PrefixRow) → ℕ → ℕ → Bool
-hits rows a l = covers a (slice_index_or rows l None)
+hits rows a l = hit (λ r. prefix_takes r a) (slice_index_or rows l None)

@@ -3,7 +3,7 @@ ghost use Rattle.std.specs.Prelude.{◌≡◌, ℕ, ◌^◌, ◌<◌, ◌≤◌,
 ghost use Rattle.std.proofs.Common.{subst};
 ghost use Rattle.parts.specs.Meaning.{Meaning, nothing};
 ghost use Rattle.fields.specs.declared.prefixes.Prefix.{Prefix};
-ghost use Rattle.trie.specs.Shown.{Shown, Agrees, string_count};
+ghost use Rattle.trie.specs.Shown.{Shows, Agrees, string_count};
 ghost use Rattle.trie.specs.Meant.{size_from, single_from};
 
 use crate::tree::Tree;
@@ -25,7 +25,7 @@ pub struct Trie {
 
 impl Trie {
     pub fn new() -> Trie
-        ensures held { Shown result.tree.tables.rows result.asked nothing }
+        ensures held { Shows result nothing }
         ensures asked { Agrees result.asked [] }
     {
         Trie {
@@ -36,16 +36,16 @@ impl Trie {
 
     // How many nodes below the root are in use: as many as there are different non-empty bit strings that some held prefix begins with.
     pub fn nodes_in_use(&self) -> usize
-        ensures exactly { (m : Meaning Prefix) → Shown self.now.tree.tables.rows self.now.asked m → result ≡ string_count m.places }
+        ensures exactly { (m : Meaning Prefix) → Shows self.now m → result ≡ string_count m.places }
         ensures few { result ≤ 3072 }
-        ensures none { (m : Meaning Prefix) → Shown self.now.tree.tables.rows self.now.asked m → ((l : ℕ) → slice_index_or m.places l None ≡ None) → result ≡ 0 }
+        ensures none { (m : Meaning Prefix) → Shows self.now m → ((l : ℕ) → slice_index_or m.places l None ≡ None) → result ≡ 0 }
     {
         self.tree.in_use()
     }
 
     // How often the engine was asked since it was emptied, modulo 2^32.
     pub fn asked_number(&self) -> u32
-        ensures { (m : Meaning Prefix) → Shown self.now.tree.tables.rows self.now.asked m → result ≡ m.asked }
+        ensures { (m : Meaning Prefix) → Shows self.now m → result ≡ m.asked }
     {
         self.asked
     }
@@ -54,7 +54,7 @@ impl Trie {
 impl Told<Prefix> for Trie {
     type Asked = u32;
 
-    ghost shows = { λ s m. Shown s.tree.tables.rows s.asked m };
+    ghost shows = { Shows };
 
     ghost agrees = { λ s l. Agrees s.asked l };
 
