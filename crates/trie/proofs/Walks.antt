@@ -2,6 +2,7 @@
 use Rattle.std.proofs.Common.{◌≡◌, ℕ, zero, suc, ◌+◌, ◌-◌, ◌*◌, ◌/◌, ◌^◌, ◌<◌, ◌≤◌, Bool, true, false, ◌||◌, eqb, List, [], ◌∷◌, ◌++◌, length, get_or, set, Some, None, Option, sym, refl, ap, ◌∙◌, subst, ⊎_elim, add-one, arith, length-set, length-append}
 use mathlib.Core.Logic.{∥∥₁_elim}
 use native.Mathlib.Bridge.{le_prop}
+use Rattle.std.proofs.Math.Bool.{or-false, or-true, or_assoc}
 use Rattle.std.proofs.Math.ListN.{get_or-append}
 use Rattle.std.proofs.Math.Seq.{get_or-append_seam}
 use Rattle.std.proofs.lemmas.List.{get_or-set_same, get_or-set_other}
@@ -111,21 +112,9 @@ unfoldable pub met : ℕ → ℕ → ℕ → Bool
 met v a zero = false
 met v a (suc k) = met v a k || eqb v (string a k)
 
-or_none : (x : Bool) → (x || false) ≡ x
-or_none true = refl
-or_none false = refl
-
-or_all : (x : Bool) → (x || true) ≡ true
-or_all true = refl
-or_all false = refl
-
-or_assoc : (x y z : Bool) → ((x || y) || z) ≡ (x || (y || z))
-or_assoc true y z = refl
-or_assoc false y z = refl
-
 pub met_none : (v a : ℕ) (x : Bool) → x ≡ (x || met v a 0)
 unfolding met
-met_none v a x = sym (or_none x)
+met_none v a x = sym (or-false x)
 
 met_more : (v a k : ℕ) → met v a (suc k) ≡ (met v a k || eqb v (string a k))
 unfolding met
@@ -133,15 +122,11 @@ met_more v a k = refl
 
 -- the marks after the node of k bits
 found_mark : (ms : List Bool) (o : Option ℕ) (l : ℕ) → l < length ms → get_or (mark_found ms o) l false ≡ (get_or ms l false || is o l)
-found_mark ms None l h = sym (or_none (get_or ms l false))
+found_mark ms None l h = sym (or-false (get_or ms l false))
 found_mark ms (Some m) l h = ⊎_elim
-    (λ (e : l ≡ m). ap (λ (x : ℕ). get_or (set ms m true) x false) e ∙ get_or-set_same ms m true false (omega arith) ∙ sym (ap (λ (b : Bool). get_or ms l false || b) (eq-eqb m l (sym e)) ∙ or_all (get_or ms l false)))
-    (λ (ne : l ≡ m → ⊥). get_or-set_other ms m l true false ne ∙ sym (ap (λ (b : Bool). get_or ms l false || b) (ne_eqb m l (λ e. ne (sym e))) ∙ or_none (get_or ms l false)))
+    (λ (e : l ≡ m). ap (λ (x : ℕ). get_or (set ms m true) x false) e ∙ get_or-set_same ms m true false (omega arith) ∙ sym (ap (λ (b : Bool). get_or ms l false || b) (eq-eqb m l (sym e)) ∙ or-true (get_or ms l false)))
+    (λ (ne : l ≡ m → ⊥). get_or-set_other ms m l true false ne ∙ sym (ap (λ (b : Bool). get_or ms l false || b) (ne_eqb m l (λ e. ne (sym e))) ∙ or-false (get_or ms l false)))
     (cases_eq l m)
-
-pub found_length : (ms : List Bool) (o : Option ℕ) → length (mark_found ms o) ≡ length ms
-found_length ms None = refl
-found_length ms (Some l) = length-set ms l true
 
 pub marks_on : (t : Tables) (a i k l : ℕ) (was : Bool) (ms after : List Bool) → Standing t a i k → l < length ms → after ≡ mark_found ms (at t.nodes i).label → get_or ms l false ≡ (was || met (codes t.rows l) a k) → get_or after l false ≡ (was || met (codes t.rows l) a (k + 1))
 marks_on t a i k l was ms after s lm e q =
@@ -157,7 +142,7 @@ met_stops : (v a j k : ℕ) → j ≤ k → ((m : ℕ) → j ≤ m → m < k →
 met_stops v a j zero h q = let e : zero ≡ j = omega arith in ap (met v a) e
 met_stops v a j (suc k) h q = ⊎_elim
     (λ (lt : j < suc k).
-    met_more v a k ∙ ap (λ (x : Bool). met v a k || x) (ne_eqb v (string a k) (q k (omega arith) (omega arith))) ∙ or_none (met v a k) ∙ met_stops v a j k (omega arith) (λ m p r. q m p (omega arith)))
+    met_more v a k ∙ ap (λ (x : Bool). met v a k || x) (ne_eqb v (string a k) (q k (omega arith) (omega arith))) ∙ or-false (met v a k) ∙ met_stops v a j k (omega arith) (λ m p r. q m p (omega arith)))
     (λ (ge : suc k ≤ j). let e : suc k ≡ j = omega arith in ap (met v a) e)
     (cases_lt j (suc k))
 
@@ -186,7 +171,7 @@ same_rest x a b = ⊎_elim
 met_before : (v a k : ℕ) → ((m : ℕ) → m < k → v ≡ string a m → ⊥) → met v a k ≡ false
 unfolding met
 met_before v a zero h = refl
-met_before v a (suc k) h = ap (λ (x : Bool). met v a k || x) (ne_eqb v (string a k) (h k (omega arith))) ∙ or_none (met v a k) ∙ met_before v a k (λ m l. h m (omega arith))
+met_before v a (suc k) h = ap (λ (x : Bool). met v a k || x) (ne_eqb v (string a k) (h k (omega arith))) ∙ or-false (met v a k) ∙ met_before v a k (λ m l. h m (omega arith))
 
 -- a prefix is met on the way of an address just if it takes the address
 pub met_covers : (a : ℕ) (o : Option PrefixRow) → a < 2 ^ 32 → LawfulAt o → met (code o) a 33 ≡ hit (λ (r : PrefixRow). prefix_takes r a) o

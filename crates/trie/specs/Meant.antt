@@ -3,7 +3,8 @@ use Rattle.std.specs.Prelude.{◌≡◌, ℕ, zero, suc, ◌+◌, ◌<◌, Bool,
 use Rattle.std.proofs.Common.{sym, ap, subst, ◌∙◌, ⊎_elim, arith}
 use Rattle.std.proofs.Math.Logic.{∥∥₁_elim}
 use Rattle.std.proofs.Math.Nat.{ℕ_set}
-use Rattle.std.proofs.lemmas.List.{length-map}
+use Rattle.std.proofs.Math.ListN.{get_or-map}
+use Rattle.std.proofs.lemmas.List.{length-map, map-set}
 use Rattle.std.proofs.lemmas.Bool.{cases_Bool, cond-true, cond-false}
 use Rattle.std.specs.Set.{distinct_count}
 use Rattle.std.proofs.lemmas.Map.Made.{distinct_count-le}
@@ -19,9 +20,7 @@ use Rattle.trie.specs.Uses.{one_place}
 use Rattle.fields.proofs.Values.{prefix_from_row}
 
 pub rows_at : (places : List (Option Prefix)) (l : ℕ) → slice_index_or (rows_of places) l None ≡ row_of (slice_index_or places l None)
-rows_at [] l = refl
-rows_at (o ∷ os) zero = refl
-rows_at (o ∷ os) (suc l) = rows_at os l
+rows_at places l = get_or-map row_of places l None
 
 pub lawful_value : (v : Prefix) → Lawful v.row
 lawful_value v = record { short = v.short; fits = v.fits; clean = v.clean }
@@ -34,18 +33,12 @@ value_from : (o : Option Prefix) (v : Prefix) → row_of o ≡ Some v.row → o 
 value_from None v e = absurd (let z : ◌≡◌ {A = ℕ} 0 1 = cc in omega arith)
 value_from (Some w) v e = ap Some (prefix_from_row w v (let q : w.row ≡ v.row = cc in q))
 
-pub none_from : (o : Option Prefix) → row_of o ≡ None → o ≡ None
-none_from None e = refl
-none_from (Some w) e = absurd (let z : ◌≡◌ {A = ℕ} 0 1 = cc in omega arith)
-
 pub some_from : (o : Option Prefix) (r : PrefixRow) → row_of o ≡ Some r → (v : Prefix) × (o ≡ Some v) × (v.row ≡ r)
 some_from None r e = absurd (let z : ◌≡◌ {A = ℕ} 0 1 = cc in omega arith)
 some_from (Some w) r e = (w, refl, (let q : w.row ≡ r = cc in q))
 
 pub map_rows_set : (places : List (Option Prefix)) (l : ℕ) (o : Option Prefix) → slice_set (rows_of places) l (row_of o) ≡ rows_of (slice_set places l o)
-map_rows_set [] l o = refl
-map_rows_set (x ∷ xs) zero o = refl
-map_rows_set (x ∷ xs) (suc l) o = ap (λ (ys : List (Option PrefixRow)). row_of x ∷ ys) (map_rows_set xs l o)
+map_rows_set places l o = sym (map-set row_of places l o)
 
 -- nothing held, no strings
 all_none : (places : List (Option Prefix)) → ((l : ℕ) → slice_index_or places l None ≡ None) → all_beginnings (rows_of places) ≡ []

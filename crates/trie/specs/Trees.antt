@@ -96,13 +96,6 @@ pub record Frame (t : Tables) (key : ℕ → ℕ) (ks : List ℕ) : Type 0 where
   pub size : length t.rows ≡ place_count
   pub lawful : (l : ℕ) → LawfulAt (slice_index_or t.rows l None)
 
--- a node is written, a place is written
-abbrev pub with_node : Tables → ℕ → Node → Tables
-with_node t i n = record { rows = t.rows; nodes = slice_set t.nodes i n; free = t.free }
-
-abbrev pub with_row : Tables → ℕ → Option PrefixRow → Tables
-with_row t p o = record { rows = slice_set t.rows p o; nodes = t.nodes; free = t.free }
-
 -- each node below the root is needed: some held prefix begins with its string
 abbrev pub Needed : List (Option PrefixRow) → (ℕ → ℕ) → Type 0
 Needed rows key = (i : ℕ) → 0 < i → 0 < key i → Begins rows (key i)
