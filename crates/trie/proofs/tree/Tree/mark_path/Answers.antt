@@ -1,9 +1,8 @@
-use Rattle.std.proofs.Common.{◌≡◌, ℕ, Bool, List, false, ◌||◌, length, get_or, sym, ap, ◌∙◌, subst, arith}
+use Rattle.std.proofs.Common.{◌≡◌, ℕ, Bool, false, ◌||◌, length, get_or, ap, ◌∙◌, arith}
 use mathlib.Core.Logic.{∥∥₁_elim}
 use mathlib.Core.Bool.{Bool-set}
 use native.Mathlib.Bridge.{le_prop}
 use Rattle.trie.specs.Strings.{codes}
-use Rattle.trie.specs.Trees.{Walked}
 use Rattle.trie.proofs.Walks.{along, passing, passing_within, met, met_none, marks_on, all_passed, all_met}
 use Rattle.trie.proofs.tree.Tree.mark_path.Goals as goal
 
