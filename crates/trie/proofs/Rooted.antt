@@ -1,14 +1,14 @@
 -- The trie that is only a root.
-use Rattle.std.proofs.Common.{◌≡◌, ℕ, ◌+◌, ◌<◌, ◌≤◌, Bool, suc, cond, eqb, List, [], ◌∷◌, length, get_or, replicate, None, Option, sym, refl, ap, ◌∙◌, subst, ⊎_elim, arith}
+use Rattle.std.proofs.Common.{◌≡◌, ℕ, ◌+◌, ◌<◌, ◌≤◌, Bool, suc, cond, eqb, List, [], ◌∷◌, length, get_or, replicate, None, Option, sym, refl, ap, ◌∙◌, ⊎_elim, arith}
 use Rattle.std.proofs.lemmas.List.{get_or-replicate, length-replicate, get_or_past}
 use Rattle.std.proofs.lemmas.Nat.{shr_le}
 use Rattle.std.proofs.lemmas.Bool.{ne_eqb, cases_eq, cases_lt}
 use Rattle.std.proofs.lemmas.Option.{none-some}
-use Rattle.fields.specs.declared.prefixes.PrefixRow.{PrefixRow}
+use Rattle.fields.specs.declared.prefixes.Prefix.{Prefix}
 use Rattle.trie.specs.declared.nodes.Node.{Node}
 use Rattle.arrayvec.specs.ArrayVec.{ArrayVec}
 use Rattle.trie.specs.Strings.{code, codes, Among, Distinct}
-use Rattle.trie.specs.Trees.{blank, at, child, Shape, Stack, Named, LawfulAt, Good, is}
+use Rattle.trie.specs.Trees.{blank, at, child, Shape, Stack, Named, Good, is}
 use Rattle.trie.proofs.Grown.{blank_leaf}
 
 abbrev first_only : ℕ → ℕ
@@ -69,13 +69,13 @@ root_stack free deep full =
       once = rising_distinct free 1 up;
     }
 
-none_held : (l : ℕ) → get_or (replicate {A = Option PrefixRow} 96 None) l None ≡ None
+none_held : (l : ℕ) → get_or (replicate {A = Option Prefix} 96 None) l None ≡ None
 none_held l = ⊎_elim
     (λ (h : l < 96). get_or-replicate 96 l None None h)
-    (λ (h : 96 ≤ l). get_or_past (replicate {A = Option PrefixRow} 96 None) l None (omega (arith, length-replicate {A = Option PrefixRow} 96 None)))
+    (λ (h : 96 ≤ l). get_or_past (replicate {A = Option Prefix} 96 None) l None (omega (arith, length-replicate {A = Option Prefix} 96 None)))
     (cases_lt l 96)
 
-pub rooted : (nodes : List Node) (free : ArrayVec ℕ) → length nodes ≡ 3073 → at nodes 0 ≡ blank → length free.items ≡ 3072 → ((t : ℕ) → t < 3072 → get_or free.items t 0 ≡ t + 1) → Good record { rows = replicate 96 None; nodes = nodes; free = free }
+pub rooted : (nodes : List Node) (free : ArrayVec ℕ) → length nodes ≡ 3073 → at nodes 0 ≡ blank → length free.items ≡ 3072 → ((t : ℕ) → t < 3072 → get_or free.items t 0 ≡ t + 1) → Good record { places = replicate 96 None; nodes = nodes; free = free }
 rooted nodes free size first deep full = record {
   key = first_only;
   ks = [];
@@ -84,8 +84,7 @@ rooted nodes free size first deep full = record {
     stack = root_stack free.items deep full;
     named = root_names nodes size first (codes (replicate 96 None)) (λ l. ap code (none_held l));
     listed = record { once = tt; many = omega (arith, deep); each = λ i pi li. omega (arith, only i li); only = λ v h. absurd h };
-    size = length-replicate {A = Option PrefixRow} 96 None;
-    lawful = λ l. subst LawfulAt (sym (none_held l)) tt;
+    size = length-replicate {A = Option Prefix} 96 None;
   };
   needed = λ i pi li. absurd (omega (arith, only i li));
 }

@@ -7,12 +7,13 @@ use Rattle.std.proofs.Math.ListN.{get_or-append}
 use Rattle.std.proofs.Math.Seq.{get_or-append_seam}
 use Rattle.std.proofs.lemmas.List.{get_or-set_same, get_or-set_other}
 use Rattle.std.proofs.lemmas.Bool.{cases_eq, cases_lt, eq-eqb, ne_eqb}
+use Rattle.fields.specs.declared.prefixes.Prefix.{Prefix}
 use Rattle.fields.specs.declared.prefixes.PrefixRow.{PrefixRow}
 use Rattle.fields.specs.Prefixes.{prefix_takes}
 use Rattle.parts.specs.Marks.{hit, mark_found}
 use Rattle.trie.specs.declared.nodes.Tables.{Tables}
 use Rattle.trie.specs.Strings.{string, bit_after, code, codes}
-use Rattle.trie.specs.Trees.{at, child, is, Lawful, LawfulAt, Good, Walked, hits}
+use Rattle.trie.specs.Trees.{at, child, is, Good, Walked, hits}
 use Rattle.trie.specs.Bitstrings.{string_pos, string_none, string_more, string_shift, bit_below, same_length}
 
 -- the walk is at the node of the first bits
@@ -78,6 +79,9 @@ walked t a n path i k w within stops = record {
 pub along : (t : Tables) (a n : ℕ) (path shown : List ℕ) → shown ≡ path → ∥ Walked t a n path ∥₁ → ∥ Walked t a n shown ∥₁
 along t a n path shown e = subst (λ (xs : List ℕ). ∥ Walked t a n xs ∥₁) (sym e)
 
+pub along_value : (t : Tables) (value : Prefix) (row : PrefixRow) (path shown : List ℕ) → row ≡ value.row → shown ≡ path → ∥ Walked t row.address row.length path ∥₁ → ∥ Walked t value.row.address value.row.length shown ∥₁
+along_value t value row path shown own e w = subst (λ (r : PrefixRow). ∥ Walked t r.address r.length shown ∥₁) own (along t row.address row.length path shown e w)
+
 -- the nodes of a path
 abbrev pub passing : (t : Tables) (a n : ℕ) (path : List ℕ) (j : ℕ) → Walked t a n path → j < length path → Standing t a (get_or path j 0) j
 passing t a n path j w lj = record { good = w.good; for = w.passed j lj }
@@ -86,13 +90,13 @@ pub passing_within : (t : Tables) (a n : ℕ) (path : List ℕ) (j : ℕ) → Wa
 passing_within t a n path j w lj = w.good.frame.shape.bound (get_or path j 0) (used t a (get_or path j 0) j (passing t a n path j w lj))
 
 -- where the walk stops early, no prefix goes on that way
-pub none_further : (t : Tables) (row : PrefixRow) (path : List ℕ) (l : ℕ) → Lawful row → Walked t row.address row.length path → length path ≤ row.length → codes t.rows l ≡ code (Some row) → ⊥
-none_further t row path l lawful w less e =
-    let a = row.address in
-    let n = row.length in
+pub none_further : (t : Tables) (value : Prefix) (path : List ℕ) (l : ℕ) → Walked t value.row.address value.row.length path → length path ≤ value.row.length → codes t.places l ≡ code (Some value) → ⊥
+none_further t value path l w less e =
+    let a = value.row.address in
+    let n = value.row.length in
     let d = length path - 1 in
     let i = get_or path d 0 in
-    let few = lawful.short in
+    let few = value.short in
     let long : length path ≡ d + 1 = omega (arith, w.some) in
     let s = string_shift a (d + 1) n (omega arith) few in
     let m = string_more a d (omega arith) in
@@ -101,11 +105,11 @@ none_further t row path l lawful w less e =
     (ap (λ (x : ℕ). x / 2 ^ (n - (d + 1))) e ∙ s ∙ m ∙ ap (λ (x : ℕ). 2 * x + bit_after a d) (sym for))
 
 -- the walk towards a held prefix reaches its node
-pub reaches : (t : Tables) (row : PrefixRow) (path : List ℕ) (p : ℕ) → Lawful row → Walked t row.address row.length path → get_or t.rows p None ≡ Some row → row.length < length path
-reaches t row path p lawful w held = ⊎_elim
-    (λ (h : row.length < length path). h)
-    (λ (h : length path ≤ row.length). absurd (none_further t row path p lawful w h (ap code held)))
-    (cases_lt row.length (length path))
+pub reaches : (t : Tables) (value : Prefix) (path : List ℕ) (p : ℕ) → Walked t value.row.address value.row.length path → get_or t.places p None ≡ Some value → value.row.length < length path
+reaches t value path p w held = ⊎_elim
+    (λ (h : value.row.length < length path). h)
+    (λ (h : length path ≤ value.row.length). absurd (none_further t value path p w h (ap code held)))
+    (cases_lt value.row.length (length path))
 
 -- whether v is one of an address's strings with fewer than k bits
 unfoldable pub met : ℕ → ℕ → ℕ → Bool
@@ -128,15 +132,15 @@ found_mark ms (Some m) l h = ⊎_elim
     (λ (ne : l ≡ m → ⊥). get_or-set_other ms m l true false ne ∙ sym (ap (λ (b : Bool). get_or ms l false || b) (ne_eqb m l (λ e. ne (sym e))) ∙ or-false (get_or ms l false)))
     (cases_eq l m)
 
-pub marks_on : (t : Tables) (a i k l : ℕ) (was : Bool) (ms after : List Bool) → Standing t a i k → l < length ms → after ≡ mark_found ms (at t.nodes i).label → get_or ms l false ≡ (was || met (codes t.rows l) a k) → get_or after l false ≡ (was || met (codes t.rows l) a (k + 1))
+pub marks_on : (t : Tables) (a i k l : ℕ) (was : Bool) (ms after : List Bool) → Standing t a i k → l < length ms → after ≡ mark_found ms (at t.nodes i).label → get_or ms l false ≡ (was || met (codes t.places l) a k) → get_or after l false ≡ (was || met (codes t.places l) a (k + 1))
 marks_on t a i k l was ms after s lm e q =
     ap (λ (x : List Bool). get_or x l false) e
     ∙ found_mark ms (at t.nodes i).label l lm
     ∙ ap (λ (x : Bool). x || is (at t.nodes i).label l) q
-    ∙ or_assoc was (met (codes t.rows l) a k) (is (at t.nodes i).label l)
-    ∙ ap (λ (x : Bool). was || (met (codes t.rows l) a k || x)) (s.good.frame.named.names i l (used t a i k s) ∙ ap (eqb (codes t.rows l)) s.for)
-    ∙ ap (λ (x : Bool). was || x) (sym (met_more (codes t.rows l) a k))
-    ∙ ap (λ (x : ℕ). was || met (codes t.rows l) a x) (sym (add-one k))
+    ∙ or_assoc was (met (codes t.places l) a k) (is (at t.nodes i).label l)
+    ∙ ap (λ (x : Bool). was || (met (codes t.places l) a k || x)) (s.good.frame.named.names i l (used t a i k s) ∙ ap (eqb (codes t.places l)) s.for)
+    ∙ ap (λ (x : Bool). was || x) (sym (met_more (codes t.places l) a k))
+    ∙ ap (λ (x : ℕ). was || met (codes t.places l) a x) (sym (add-one k))
 
 met_stops : (v a j k : ℕ) → j ≤ k → ((m : ℕ) → j ≤ m → m < k → v ≡ string a m → ⊥) → met v a k ≡ met v a j
 met_stops v a j zero h q = let e : zero ≡ j = omega arith in ap (met v a) e
@@ -147,19 +151,19 @@ met_stops v a j (suc k) h q = ⊎_elim
     (cases_lt j (suc k))
 
 -- where there is no child, no held prefix is met any more
-stops : (t : Tables) (a i k l : ℕ) → Standing t a i k → k < 32 → child (at t.nodes i) (bit_after a k) ≡ None → met (codes t.rows l) a (k + 1) ≡ met (codes t.rows l) a 33
-stops t a i k l s few z = sym (met_stops (codes t.rows l) a (k + 1) 33 (omega arith) (λ m p q e.
+stops : (t : Tables) (a i k l : ℕ) → Standing t a i k → k < 32 → child (at t.nodes i) (bit_after a k) ≡ None → met (codes t.places l) a (k + 1) ≡ met (codes t.places l) a 33
+stops t a i k l s few z = sym (met_stops (codes t.places l) a (k + 1) 33 (omega arith) (λ m p q e.
     s.good.frame.named.reached l i (bit_after a k) (m - (k + 1)) (used t a i k s) (bit_below a k) z
     (ap (λ (x : ℕ). x / 2 ^ (m - (k + 1))) e ∙ string_shift a (k + 1) m (omega arith) (omega arith) ∙ string_more a k few ∙ ap (λ (x : ℕ). 2 * x + bit_after a k) (sym s.for))))
 
 -- nor behind the end of the path
-pub all_passed : (t : Tables) (a l : ℕ) (path : List ℕ) → Walked t a 32 path → met (codes t.rows l) a (length path) ≡ met (codes t.rows l) a 33
+pub all_passed : (t : Tables) (a l : ℕ) (path : List ℕ) → Walked t a 32 path → met (codes t.places l) a (length path) ≡ met (codes t.places l) a 33
 all_passed t a l path w =
     let d = length path - 1 in
     let long : length path ≡ d + 1 = omega (arith, w.some) in
     ⊎_elim
-    (λ (less : d < 32). ap (met (codes t.rows l) a) long ∙ stops t a (get_or path d 0) d l (passing t a 32 path d w (omega arith)) less (w.stops d long less))
-    (λ (all : 32 ≤ d). let z : length path ≡ 33 = omega (arith, w.within) in ap (met (codes t.rows l) a) z)
+    (λ (less : d < 32). ap (met (codes t.places l) a) long ∙ stops t a (get_or path d 0) d l (passing t a 32 path d w (omega arith)) less (w.stops d long less))
+    (λ (all : 32 ≤ d). let z : length path ≡ 33 = omega (arith, w.within) in ap (met (codes t.places l) a) z)
     (cases_lt d 32)
 
 same_rest : (x a b : ℕ) → eqb (x + a) (x + b) ≡ eqb b a
@@ -174,17 +178,17 @@ met_before v a zero h = refl
 met_before v a (suc k) h = ap (λ (x : Bool). met v a k || x) (ne_eqb v (string a k) (h k (omega arith))) ∙ or-false (met v a k) ∙ met_before v a k (λ m l. h m (omega arith))
 
 -- a prefix is met on the way of an address just if it takes the address
-pub met_covers : (a : ℕ) (o : Option PrefixRow) → a < 2 ^ 32 → LawfulAt o → met (code o) a 33 ≡ hit (λ (r : PrefixRow). prefix_takes r a) o
-met_covers a None la s = met_before 0 a 33 (λ m l e. omega (arith, string_pos a m))
-met_covers a (Some p) la w =
-    let n = p.length in
-    let v = string p.address n in
-    let few = w.short in
-    let same : (m : ℕ) → m < 33 → v ≡ string a m → n ≡ m = λ m l e. same_length p.address a n m w.fits la few (omega arith) e in
+pub met_covers : (a : ℕ) (o : Option Prefix) → a < 2 ^ 32 → met (code o) a 33 ≡ hit (λ (v : Prefix). prefix_takes v.row a) o
+met_covers a None la = met_before 0 a 33 (λ m l e. omega (arith, string_pos a m))
+met_covers a (Some p) la =
+    let n = p.row.length in
+    let v = string p.row.address n in
+    let few = p.short in
+    let same : (m : ℕ) → m < 33 → v ≡ string a m → n ≡ m = λ m l e. same_length p.row.address a n m p.fits la few (omega arith) e in
     met_stops v a (suc n) 33 (omega arith) (λ m g l e. let z : n ≡ m = same m l e in omega arith)
     ∙ met_more v a n
     ∙ ap (λ (x : Bool). x || eqb v (string a n)) (met_before v a n (λ m l e. let z : n ≡ m = same m (omega arith) e in omega arith))
-    ∙ same_rest (2 ^ n) (p.address / 2 ^ (32 - n)) (a / 2 ^ (32 - n))
+    ∙ same_rest (2 ^ n) (p.row.address / 2 ^ (32 - n)) (a / 2 ^ (32 - n))
 
-pub all_met : (t : Tables) (a l : ℕ) (was : Bool) → Good t → a < 2 ^ 32 → (was || met (codes t.rows l) a 33) ≡ (was || hits t.rows a l)
-all_met t a l was g la = ap (λ (x : Bool). was || x) (met_covers a (get_or t.rows l None) la (g.frame.lawful l))
+pub all_met : (t : Tables) (a l : ℕ) (was : Bool) → Good t → a < 2 ^ 32 → (was || met (codes t.places l) a 33) ≡ (was || hits t.places a l)
+all_met t a l was g la = ap (λ (x : Bool). was || x) (met_covers a (get_or t.places l None) la)

@@ -6,9 +6,8 @@ use Rattle.std.specs.List.{AllByRecursion, IsDistinct}
 use Rattle.std.specs.Set.{distinct_count, is_member}
 use Rattle.std.specs.Cmp.{both_ways, nat_eq_equiv}
 use Rattle.std.proofs.lemmas.Map.Made.{length-le_from_is_member, length-from_keys}
-use Rattle.fields.specs.declared.prefixes.PrefixRow.{PrefixRow}
+use Rattle.fields.specs.declared.prefixes.Prefix.{Prefix}
 use Rattle.trie.specs.Strings.{first_strings, beginnings, all_beginnings, Among, Distinct, Begins}
-use Rattle.trie.specs.Trees.{LawfulAt}
 
 -- a list without the first x in it
 abbrev pub without : ℕ → List ℕ → List ℕ
@@ -122,12 +121,12 @@ distinct_front x (y ∷ ys) d =
       (λ h. ⊎_elim (λ (e : x ≡ y). d.0 (subst (λ (z : ℕ). Among z (ys ++ x ∷ [])) e (among_last x ys))) (λ (q : Among x ys). r.1 q) h),
     )
 
-pub begins_among : (rows : List (Option PrefixRow)) (v l : ℕ) → Among v (beginnings (slice_index_or rows l None)) → Among v (all_beginnings rows)
+pub begins_among : (places : List (Option Prefix)) (v l : ℕ) → Among v (beginnings (slice_index_or places l None)) → Among v (all_beginnings places)
 begins_among [] v l h = absurd h
 begins_among (o ∷ os) v zero h = among_left v (beginnings o) (all_beginnings os) h
 begins_among (o ∷ os) v (suc l) h = among_right v (beginnings o) (all_beginnings os) (begins_among os v l h)
 
-pub among_begins : (rows : List (Option PrefixRow)) (v : ℕ) → Among v (all_beginnings rows) → Begins rows v
+pub among_begins : (places : List (Option Prefix)) (v : ℕ) → Among v (all_beginnings places) → Begins places v
 among_begins [] v h = absurd h
 among_begins (o ∷ os) v h = ⊎_elim
     (λ (p : Among v (beginnings o)). (0, p))
@@ -138,10 +137,10 @@ strings_length : (a k : ℕ) → length (first_strings a k) ≡ k
 strings_length a zero = refl
 strings_length a (suc k) = omega (arith, strings_length a k)
 
-beginnings_few : (o : Option PrefixRow) → LawfulAt o → length (beginnings o) ≤ 32
-beginnings_few None h = omega arith
-beginnings_few (Some r) h = omega (arith, strings_length r.address r.length, h.short)
+beginnings_few : (o : Option Prefix) → length (beginnings o) ≤ 32
+beginnings_few None = omega arith
+beginnings_few (Some v) = omega (arith, strings_length v.row.address v.row.length, v.short)
 
-pub all_few : (rows : List (Option PrefixRow)) → ((l : ℕ) → LawfulAt (slice_index_or rows l None)) → length (all_beginnings rows) ≤ 32 * length rows
-all_few [] h = omega arith
-all_few (o ∷ os) h = omega (arith, length-append (beginnings o) (all_beginnings os), beginnings_few o (h 0), all_few os (λ l. h (suc l)))
+pub all_few : (places : List (Option Prefix)) → length (all_beginnings places) ≤ 32 * length places
+all_few [] = omega arith
+all_few (o ∷ os) = omega (arith, length-append (beginnings o) (all_beginnings os), beginnings_few o, all_few os)

@@ -1,10 +1,10 @@
 -- What the tables of a trie mean. Which bit string a node stands for is its key, and 0 says that the node is free; keys are not kept in memory.
-use Rattle.std.specs.Prelude.{◌≡◌, ℕ, ◌+◌, ◌*◌, ◌/◌, ◌^◌, ◌<◌, ◌≤◌, Bool, false, ◌&&◌, ◌⊎◌, List, [], ◌∷◌, length, Some, None, Option, ◌==◌, ◌≢◌, slice_index, slice_index_or, slice_set, is_none, IfSome}
+use Rattle.std.specs.Prelude.{◌≡◌, ℕ, ◌+◌, ◌*◌, ◌/◌, ◌^◌, ◌<◌, ◌≤◌, Bool, false, ◌&&◌, ◌⊎◌, List, [], ◌∷◌, length, Some, None, Option, ◌==◌, ◌≢◌, slice_index, slice_index_or, slice_set, is_none}
 use Rattle.std.specs.List.{list_all}
-use Rattle.fields.specs.declared.prefixes.PrefixRow.{PrefixRow}
+use Rattle.fields.specs.declared.prefixes.Prefix.{Prefix}
 use Rattle.parts.specs.Meaning.{place_count}
 use Rattle.parts.specs.Marks.{hit}
-use Rattle.fields.specs.Prefixes.{other_bits, prefix_takes}
+use Rattle.fields.specs.Prefixes.{prefix_takes}
 use Rattle.trie.specs.declared.nodes.Node.{Node}
 use Rattle.trie.specs.declared.nodes.Tables.{Tables}
 use Rattle.trie.specs.Strings.{string, bit_after, codes, first_strings, Among, Distinct, Begins}
@@ -79,37 +79,27 @@ pub record Listed (key : ℕ → ℕ) (ks : List ℕ) (spare : ℕ) : Type 0 whe
   pub each : (i : ℕ) → 0 < i → 0 < key i → Among (key i) ks
   pub only : (v : ℕ) → Among v ks → (i : ℕ) × (0 < i) × (0 < key i) × (key i ≡ v)
 
--- what every row of a prefix is like
-pub record Lawful (r : PrefixRow) : Type 0 where
-  pub short : r.length ≤ 32
-  pub fits : r.address < 2 ^ 32
-  pub clean : other_bits r.length r.address ≡ 0
-
-abbrev pub LawfulAt : Option PrefixRow → Type 0
-LawfulAt o = IfSome o Lawful
-
 pub record Frame (t : Tables) (key : ℕ → ℕ) (ks : List ℕ) : Type 0 where
   pub shape : Shape key t.nodes
   pub stack : Stack key t.free.items
-  pub named : Named key t.nodes (codes t.rows)
+  pub named : Named key t.nodes (codes t.places)
   pub listed : Listed key ks (length t.free.items)
-  pub size : length t.rows ≡ place_count
-  pub lawful : (l : ℕ) → LawfulAt (slice_index_or t.rows l None)
+  pub size : length t.places ≡ place_count
 
 -- each node below the root is needed: some held prefix begins with its string
-abbrev pub Needed : List (Option PrefixRow) → (ℕ → ℕ) → Type 0
-Needed rows key = (i : ℕ) → 0 < i → 0 < key i → Begins rows (key i)
+abbrev pub Needed : List (Option Prefix) → (ℕ → ℕ) → Type 0
+Needed places key = (i : ℕ) → 0 < i → 0 < key i → Begins places (key i)
 
 -- the same but for the nodes of one prefix's first k bits
-abbrev pub Nearly : List (Option PrefixRow) → ℕ → ℕ → (ℕ → ℕ) → Type 0
-Nearly rows a k key = (i : ℕ) → 0 < i → 0 < key i → Begins rows (key i) ⊎ Among (key i) (first_strings a k)
+abbrev pub Nearly : List (Option Prefix) → ℕ → ℕ → (ℕ → ℕ) → Type 0
+Nearly places a k key = (i : ℕ) → 0 < i → 0 < key i → Begins places (key i) ⊎ Among (key i) (first_strings a k)
 
--- the trie of the prefixes that the rows are
+-- the trie of the prefixes at the places
 pub record Good (t : Tables) : Type 0 where
   pub key : ℕ → ℕ
   pub ks : List ℕ
   pub frame : Frame t key ks
-  pub needed : Needed t.rows key
+  pub needed : Needed t.places key
 
 -- a walk towards the first n bits of an address passed these nodes, the root first, and went on as long as there was a next one
 pub record Walked (t : Tables) (a n : ℕ) (path : List ℕ) : Type 0 where
@@ -120,26 +110,24 @@ pub record Walked (t : Tables) (a n : ℕ) (path : List ℕ) : Type 0 where
   pub stops : (d : ℕ) → length path ≡ d + 1 → d < n → child (at t.nodes (slice_index path d)) (bit_after a d) ≡ None
 
 -- nodes are being taken for a prefix, and the last is at depth
-pub record Growing (t : Tables) (row : PrefixRow) (node depth : ℕ) : Type 0 where
+pub record Growing (t : Tables) (value : Prefix) (node depth : ℕ) : Type 0 where
   pub key : ℕ → ℕ
   pub ks : List ℕ
   pub frame : Frame t key ks
-  pub lawful : Lawful row
-  pub nearly : Nearly t.rows row.address row.length key
-  pub for : key node ≡ string row.address depth
-  pub stops : depth < row.length → child (at t.nodes node) (bit_after row.address depth) ≡ None
-  pub vacant : (p : ℕ) × (p < place_count) × (slice_index_or t.rows p None ≡ None)
+  pub nearly : Nearly t.places value.row.address value.row.length key
+  pub for : key node ≡ string value.row.address depth
+  pub stops : depth < value.row.length → child (at t.nodes node) (bit_after value.row.address depth) ≡ None
+  pub vacant : (p : ℕ) × (p < place_count) × (slice_index_or t.places p None ≡ None)
 
 -- nodes of a prefix that is no longer held are being freed, down to depth
-pub record Trimming (t : Tables) (row : PrefixRow) (path : List ℕ) (depth : ℕ) : Type 0 where
+pub record Trimming (t : Tables) (value : Prefix) (path : List ℕ) (depth : ℕ) : Type 0 where
   pub key : ℕ → ℕ
   pub ks : List ℕ
   pub frame : Frame t key ks
-  pub lawful : Lawful row
-  pub nearly : Nearly t.rows row.address depth key
+  pub nearly : Nearly t.places value.row.address depth key
   pub long : depth < length path
-  pub passed : (j : ℕ) → j ≤ depth → key (slice_index path j) ≡ string row.address j
+  pub passed : (j : ℕ) → j ≤ depth → key (slice_index path j) ≡ string value.row.address j
 
 -- whether a place holds a prefix that takes the address
-abbrev pub hits : List (Option PrefixRow) → ℕ → ℕ → Bool
-hits rows a l = hit (λ r. prefix_takes r a) (slice_index_or rows l None)
+abbrev pub hits : List (Option Prefix) → ℕ → ℕ → Bool
+hits places a l = hit (λ v. prefix_takes v.row a) (slice_index_or places l None)

@@ -1,23 +1,24 @@
 // Changes to the tables: nodes that are taken for a prefix, and freed when no prefix needs them.
 ghost use Rattle.std.specs.Prelude.{◌≡◌, ℕ, ◌+◌, ◌<◌, ◌≤◌, true, false, Some, None, ◌≢◌, slice_index_or, slice_set};
 ghost use Rattle.trie.specs.Strings.{code, codes};
-ghost use Rattle.trie.specs.Trees.{Good, Lawful, Walked, Growing, Trimming};
+ghost use Rattle.trie.specs.Trees.{Good, Walked, Growing, Trimming};
 
 use crate::nodes::{Node, Tables};
 use crate::tree::Tree;
 use crate::walk::bit_after;
-use fields::prefixes::PrefixRow;
+use fields::kinds::Kind;
+use fields::prefixes::Prefix;
 use parts::marks::PLACES;
 
 impl Tables {
     // Takes a free node for the next bit of a prefix.
-    fn extend(&mut self, parent: u16, row: PrefixRow, depth: u8) -> u16
-        requires within { depth < row.length }
-        requires growing { ∥ Growing self.old row parent depth ∥₁ }
-        ensures rows { self.new.rows ≡ self.old.rows }
-        ensures growing { ∥ Growing self.new row result (depth + 1) ∥₁ }
+    fn extend(&mut self, parent: u16, value: Prefix, depth: u8) -> u16
+        requires within { depth < value.row.length }
+        requires growing { ∥ Growing self.old value parent depth ∥₁ }
+        ensures places { self.new.places ≡ self.old.places }
+        ensures growing { ∥ Growing self.new value result (depth + 1) ∥₁ }
     {
-        let bit = bit_after(row.address, depth);
+        let bit = bit_after(value.row().address, depth);
         let node = self.free.pop().unwrap();
         self.nodes[node as usize] = Node::BLANK;
         self.nodes[parent as usize].children[bit] = Some(node);
@@ -25,25 +26,25 @@ impl Tables {
     }
 
     // Takes free nodes for all bits of a prefix after the first `depth`, whose node there is, and answers the last node.
-    fn grow(&mut self, node: u16, row: PrefixRow, depth: u8) -> u16
-        requires within { depth ≤ row.length }
-        requires growing { ∥ Growing self.old row node depth ∥₁ }
-        ensures rows { self.new.rows ≡ self.old.rows }
-        ensures grown { ∥ Growing self.new row result row.length ∥₁ }
+    fn grow(&mut self, node: u16, value: Prefix, depth: u8) -> u16
+        requires within { depth ≤ value.row.length }
+        requires growing { ∥ Growing self.old value node depth ∥₁ }
+        ensures places { self.new.places ≡ self.old.places }
+        ensures grown { ∥ Growing self.new value result value.row.length ∥₁ }
     {
         let mut last = node;
-        for depth in depth..row.length {
-            last = self.extend(last, row, depth);
+        for depth in depth..value.row().length {
+            last = self.extend(last, value, depth);
         }
         last
     }
 
     // Frees the last node of a prefix's first `depth + 1` bits if it has neither label nor child, and says whether it did.
-    fn snip(&mut self, path: &[u16], row: PrefixRow, depth: u8) -> bool
-        requires within { depth < row.length }
-        requires trimming { ∥ Trimming self.old row path.now (depth + 1) ∥₁ }
-        ensures rows { self.new.rows ≡ self.old.rows }
-        ensures freed { result ≡ true → ∥ Trimming self.new row path.now depth ∥₁ }
+    fn snip(&mut self, path: &[u16], value: Prefix, depth: u8) -> bool
+        requires within { depth < value.row.length }
+        requires trimming { ∥ Trimming self.old value path.now (depth + 1) ∥₁ }
+        ensures places { self.new.places ≡ self.old.places }
+        ensures freed { result ≡ true → ∥ Trimming self.new value path.now depth ∥₁ }
         ensures kept { result ≡ false → ∥ Good self.new ∥₁ }
     {
         let parent = path[depth as usize] as usize;
@@ -51,19 +52,19 @@ impl Tables {
         if !self.nodes[last as usize].is_bare() {
             return false;
         }
-        self.nodes[parent].children[bit_after(row.address, depth)] = None;
+        self.nodes[parent].children[bit_after(value.row().address, depth)] = None;
         self.free.push(last);
         true
     }
 
     // Frees the nodes of a prefix that nothing needs, from the last up.
-    fn trim(&mut self, path: &[u16], row: PrefixRow)
-        requires { ∥ Trimming self.old row path.now row.length ∥₁ }
+    fn trim(&mut self, path: &[u16], value: Prefix)
+        requires { ∥ Trimming self.old value path.now value.row.length ∥₁ }
         ensures sound { ∥ Good self.new ∥₁ }
-        ensures rows { self.new.rows ≡ self.old.rows }
+        ensures places { self.new.places ≡ self.old.places }
     {
-        for depth in (0..row.length).rev() {
-            if !self.snip(path, row, depth) {
+        for depth in (0..value.row().length).rev() {
+            if !self.snip(path, value, depth) {
                 return;
             }
         }
@@ -72,31 +73,31 @@ impl Tables {
 
 impl Tree {
     // Puts a prefix that no place holds at an empty place, by the walk towards it.
-    pub fn put(&mut self, place: u8, row: PrefixRow, path: &[u16])
+    pub fn put(&mut self, place: u8, value: Prefix, path: &[u16])
         requires within { place < PLACES }
-        requires lawful { Lawful row }
-        requires walked { ∥ Walked self.old.tables row.address row.length path.now ∥₁ }
-        requires vacant { slice_index_or self.old.tables.rows place None ≡ None }
-        requires new { (l : ℕ) → codes self.old.tables.rows l ≢ code (Some row) }
-        ensures { self.new.tables.rows ≡ slice_set self.old.tables.rows place (Some row) }
+        requires walked { ∥ Walked self.old.tables value.row.address value.row.length path.now ∥₁ }
+        requires vacant { slice_index_or self.old.tables.places place None ≡ None }
+        requires new { (l : ℕ) → codes self.old.tables.places l ≢ code (Some value) }
+        ensures { self.new.tables.places ≡ slice_set self.old.tables.places place (Some value) }
     {
         let depth = path.len() - 1;
-        let last = self.tables.grow(path[depth], row, depth as u8);
+        let last = self.tables.grow(path[depth], value, depth as u8);
         self.tables.nodes[last as usize].label = Some(place);
-        self.tables.rows[place as usize] = Some(row);
+        self.tables.places[place as usize] = Some(value);
     }
 
     // Empties the place that holds a prefix.
-    pub fn remove(&mut self, place: u8, row: PrefixRow)
+    pub fn remove(&mut self, place: u8, value: Prefix)
         requires within { place < PLACES }
-        requires held { slice_index_or self.old.tables.rows place None ≡ Some row }
-        ensures { self.new.tables.rows ≡ slice_set self.old.tables.rows place None }
+        requires held { slice_index_or self.old.tables.places place None ≡ Some value }
+        ensures { self.new.tables.places ≡ slice_set self.old.tables.places place None }
     {
+        let row = value.row();
         let path = self.walk(row.address, row.length);
         let path = path.as_slice();
         let last = path[row.length as usize];
         self.tables.nodes[last as usize].label = None;
-        self.tables.rows[place as usize] = None;
-        self.tables.trim(path, row);
+        self.tables.places[place as usize] = None;
+        self.tables.trim(path, value);
     }
 }

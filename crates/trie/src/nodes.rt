@@ -3,7 +3,7 @@ ghost use Rattle.std.specs.Prelude.{◌≡◌};
 ghost use Rattle.trie.specs.Trees.{bare};
 
 use arrayvec::ArrayVec;
-use fields::prefixes::PrefixRow;
+use fields::prefixes::Prefix;
 use parts::marks::PLACES;
 
 // How many bits an address has.
@@ -41,7 +41,7 @@ impl Node {
 // What the places hold, the root, which is node 0, and the nodes below it, and those that are free.
 #[derive(Drop)]
 pub struct Tables {
-    pub rows: [Option<PrefixRow>; PLACES],
+    pub places: [Option<Prefix>; PLACES],
     pub nodes: [Node; NODES],
     pub free: ArrayVec<u16, BELOW_ROOT>,
 }

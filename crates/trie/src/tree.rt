@@ -4,7 +4,7 @@ ghost use Rattle.trie.specs.Trees.{Good};
 
 use crate::nodes::{BELOW_ROOT, NODES, Node, Tables};
 use arrayvec::ArrayVec;
-use fields::prefixes::PrefixRow;
+use fields::prefixes::Prefix;
 use parts::checks::entry_at;
 use parts::marks::PLACES;
 
@@ -26,11 +26,11 @@ fn all_below_root() -> ArrayVec<u16, BELOW_ROOT>
 impl Tree {
     // Only a root.
     pub fn bare() -> Tree
-        ensures { result.tables.rows ≡ replicate PLACES None }
+        ensures { result.tables.places ≡ replicate PLACES None }
     {
         Tree {
             tables: Tables {
-                rows: [None; PLACES],
+                places: [None; PLACES],
                 nodes: [Node::BLANK; NODES],
                 free: all_below_root(),
             },
@@ -38,10 +38,10 @@ impl Tree {
     }
 
     // The prefix that a place holds.
-    pub fn row(&self, place: u8) -> Option<PrefixRow>
-        ensures { result ≡ slice_index_or self.now.tables.rows place None }
+    pub fn held(&self, place: u8) -> Option<Prefix>
+        ensures { result ≡ slice_index_or self.now.tables.places place None }
     {
-        entry_at(&self.tables.rows, place as usize)
+        entry_at(&self.tables.places, place as usize)
     }
 
     // How many nodes below the root are not free.

@@ -3,7 +3,8 @@ ghost use Rattle.std.specs.Prelude.{◌≡◌, ℕ, ◌^◌, ◌<◌, ◌≤◌,
 ghost use Rattle.std.proofs.Common.{subst};
 ghost use Rattle.parts.specs.Meaning.{Meaning, nothing};
 ghost use Rattle.fields.specs.declared.prefixes.Prefix.{Prefix};
-ghost use Rattle.trie.specs.Shown.{Shows, Agrees, string_count};
+ghost use Rattle.trie.specs.Strings.{string_count};
+ghost use Rattle.trie.specs.Shown.{Shows, Agrees};
 ghost use Rattle.trie.specs.Meant.{size_from, single_from};
 
 use crate::tree::Tree;
@@ -76,17 +77,16 @@ impl Told<Prefix> for Trie {
         check_set(
             place,
             &[],
-            self.tree.row(place),
-            self.tree.holder(row, path),
+            self.tree.held(place),
+            self.tree.holder(value, path),
         )?;
-        self.tree.put(place, row, path);
+        self.tree.put(place, value, path);
         Ok(())
     }
 
     fn clear(&mut self, place: u8) -> Result<Prefix, Fault> {
-        let row = check_clear(place, self.tree.row(place))?;
-        let value = Prefix::form(row)?;
-        self.tree.remove(place, row);
+        let value = check_clear(place, self.tree.held(place))?;
+        self.tree.remove(place, value);
         Ok(value)
     }
 }

@@ -1,12 +1,13 @@
 // Walks from the root towards an address, one bit a step.
 ghost use Rattle.std.specs.Prelude.{◌≡◌, ℕ, ◌<◌, ◌≤◌, false, ◌||◌, Some, ◌==◌, slice_index_or};
 ghost use Rattle.trie.specs.Strings.{bit_after, code, codes};
-ghost use Rattle.trie.specs.Trees.{is, hits, Lawful, Walked};
+ghost use Rattle.trie.specs.Trees.{is, hits, Walked};
 
 use crate::nodes::{BITS, STEPS};
 use crate::tree::Tree;
 use arrayvec::ArrayVec;
-use fields::prefixes::PrefixRow;
+use fields::kinds::Kind;
+use fields::prefixes::Prefix;
 use parts::marks::{PLACES, mark};
 
 // The bit of an address that follows its first `depth`.
@@ -39,18 +40,17 @@ impl Tree {
     }
 
     // The label of the place that holds a prefix, by the walk towards it.
-    pub fn holder(&self, row: PrefixRow, path: &[u16]) -> Option<u8>
-        requires lawful { Lawful row }
-        requires walked { ∥ Walked self.now.tables row.address row.length path.now ∥₁ }
-        ensures { (l : ℕ) → is result l ≡ (codes self.now.tables.rows l == code (Some row)) }
+    pub fn holder(&self, value: Prefix, path: &[u16]) -> Option<u8>
+        requires { ∥ Walked self.now.tables value.row.address value.row.length path.now ∥₁ }
+        ensures { (l : ℕ) → is result l ≡ (codes self.now.tables.places l == code (Some value)) }
     {
-        let node = *path.get(row.length as usize)?;
+        let node = *path.get(value.row().length as usize)?;
         self.tables.nodes[node as usize].label
     }
 
     // Marks the labels of all prefixes that the address begins with.
     pub fn mark_path(&self, address: u32, marks: &mut [bool; PLACES])
-        ensures { (l : ℕ) → l < PLACES → slice_index_or marks.new l false ≡ (slice_index_or marks.old l false || hits self.now.tables.rows address l) }
+        ensures { (l : ℕ) → l < PLACES → slice_index_or marks.new l false ≡ (slice_index_or marks.old l false || hits self.now.tables.places address l) }
     {
         let path = self.walk(address, BITS as u8);
         for node in path.as_slice() {

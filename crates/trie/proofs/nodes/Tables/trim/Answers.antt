@@ -9,6 +9,6 @@ returns c =
     let t = c.loop-depth.self in
     let e : c.loop-depth.depth ≡ 0 = omega arith in
     record {
-      sound = ∥∥₁_map c.loop-depth.invariant.0 (λ g. trimmed t c.args.row c.args.path.now (subst (Trimming t c.args.row c.args.path.now) e g));
-      rows = c.loop-depth.invariant.1;
+      sound = ∥∥₁_map c.loop-depth.invariant.0 (λ g. trimmed t c.args.value c.args.path.now (subst (Trimming t c.args.value c.args.path.now) e g));
+      places = c.loop-depth.invariant.1;
     }

@@ -7,7 +7,7 @@ use Rattle.trie.proofs.Walks.{along, passing, passing_within, met, met_none, mar
 use Rattle.trie.proofs.tree.Tree.mark_path.Goals as goal
 
 pub loop-node-init : goal.loop-node-init
-loop-node-init c = (c.told-marks, λ m h. met_none (codes c.args.self.now.tables.rows m) c.args.address (get_or c.args.marks.now m false))
+loop-node-init c = (c.told-marks, λ m h. met_none (codes c.args.self.now.tables.places m) c.args.address (get_or c.args.marks.now m false))
 
 pub bounds-self-node : goal.bounds-self-node
 bounds-self-node c =
@@ -39,6 +39,6 @@ returns c =
     λ l ll. ∥∥₁_elim walked (Bool-set _ _) (λ w.
     let was = get_or c.args.marks.now l false in
     c.loop-node.invariant.1 l ll
-    ∙ ap (λ (k : ℕ). was || met (codes t.rows l) a k) all
+    ∙ ap (λ (k : ℕ). was || met (codes t.places l) a k) all
     ∙ ap (λ (b : Bool). was || b) (all_passed t a l path w)
     ∙ all_met t a l was w.good (omega arith))

@@ -1,4 +1,4 @@
-use Rattle.std.proofs.Common.{◌≡◌, ℕ, ◌+◌, ◌%◌, ◌^◌, ltb, List, [], ◌∷◌, length, Some, None, Option, sym, ap, ◌∙◌, subst, mod-lt, arith, length-append, rules}
+use Rattle.std.proofs.Common.{◌≡◌, ℕ, ◌+◌, ◌%◌, ◌^◌, ltb, List, [], ◌∷◌, length, Some, None, Option, refl, sym, ap, ◌∙◌, subst, mod-lt, arith, length-append, rules}
 use Rattle.std.proofs.lemmas.Bool.{lt-ltb, cond-true}
 use Rattle.fields.specs.declared.faults.Fault.{Fault}
 use Rattle.fields.specs.declared.prefixes.Prefix.{Prefix}
@@ -21,11 +21,11 @@ returns c =
     let ms = c.mark_path.new.marks in
     let size : length ms ≡ 96 = search rules in
     let r = unfaulted (list_fault (length old)) (length (marked ms)) c.in_ok-count.count (sym c.in_ok-count.was ∙ c.write_marked.ensures.result) in
-    let found : (m : Meaning Prefix) → Shown t.rows c.args.self.now.asked m → marked ms ≡ labels_of (λ v. prefix_takes v.row a) m.places = λ m s. ap marked (marks_from t.rows m.places a ms s.held (size_from t m.places c.args.self.now.tree.sound s.held) size c.mark_path.ensures) in
+    let found : (m : Meaning Prefix) → Shown t.places c.args.self.now.asked m → marked ms ≡ labels_of (λ v. prefix_takes v.row a) m.places = λ m s. ap marked (marks_from t.places a ms (size_from t t.places c.args.self.now.tree.sound refl) size c.mark_path.ensures) ∙ ap (labels_of (λ (v : Prefix). prefix_takes v.row a)) s.held in
     record {
       result = λ m s. sym c.in_ok-count.was ∙ c.write_marked.ensures.result ∙ ap (λ (ls : List ℕ). answer (list_fault (length old)) (length ls)) (found m s);
       written = λ m s. c.write_marked.ensures.written ∙ ap (λ (ls : List ℕ). unless (list_fault (length old)) old (over_start ls old)) (found m s);
-      held = λ m s. subst (λ (f : Option Fault). Shown t.rows ((c.args.self.now.asked + 1) % 2 ^ 32) (unless f m (asked_once m))) (sym r) record {
+      held = λ m s. subst (λ (f : Option Fault). Shown t.places ((c.args.self.now.asked + 1) % 2 ^ 32) (unless f m (asked_once m))) (sym r) record {
         held = s.held;
         counted = ap (λ (x : ℕ). (x + 1) % 2 ^ 32) s.counted;
         small = mod-lt (c.args.self.now.asked + 1) (omega arith);

@@ -1,70 +1,59 @@
 use Rattle.std.proofs.Common.{◌≡◌, ℕ, List, [], get_or, set, Some, None, Err, Option, sym, refl, ap, ◌∙◌, subst, arith, rules}
 use Rattle.fields.specs.declared.faults.Fault.{Fault}
 use Rattle.fields.specs.declared.prefixes.Prefix.{Prefix}
-use Rattle.fields.specs.declared.prefixes.PrefixRow.{PrefixRow}
 use Rattle.fields.specs.Faults.{answer, unless}
 use Rattle.parts.specs.Meaning.{Meaning, set_fault, put}
 use Rattle.parts.specs.Checks.{set_refusal}
-use Rattle.trie.specs.Shown.{rows_of, Shown}
-use Rattle.trie.specs.Trees.{Lawful}
-use Rattle.trie.specs.Meant.{lawful_value, map_rows_set}
-use Rattle.trie.proofs.Walks.{along}
+use Rattle.trie.specs.Shown.{Shown}
+use Rattle.trie.proofs.Walks.{along_value}
 use Rattle.trie.proofs.Placed.{equal, no_labels, refused, settable, same_refusal, new_from}
 use Rattle.trie.proofs.tries.TrieToldPrefix.set.Goals as goal
 
 pub holder-requires : goal.holder-requires
-holder-requires c = record {
-  lawful = subst Lawful (sym c.row-row.ensures) (lawful_value c.args.value);
-  walked = along c.args.self.now.tree.tables c.row-row.result.address c.row-row.result.length c.walk-path.result.items c.as_slice-path.result.now c.as_slice-path.ensures.value c.walk-path.ensures;
-}
+holder-requires c = along_value c.args.self.now.tree.tables c.args.value c.row-row.result c.walk-path.result.items c.as_slice-path.result.now c.row-row.ensures c.as_slice-path.ensures.value c.walk-path.ensures
 
 pub returns-in_err-check_set : goal.returns-in_err-check_set
 returns-in_err-check_set c =
-    let rows = c.args.self.now.tree.tables.rows in
+    let places = c.args.self.now.tree.tables.places in
     let p = c.args.place in
     let v = c.args.value in
     let found = c.holder.result in
     let e = c.in_err-check_set.field-0.0 in
     let is : c.from_residual.result ≡ Err e = search rules in
-    let checked : Err e ≡ answer (set_refusal p [] (get_or rows p None) found) tt = sym c.in_err-check_set.was ∙ c.check_set.ensures ∙ ap (λ (o : Option PrefixRow). answer (set_refusal p [] o found) tt) c.row.ensures in
-    let fault : (m : Meaning Prefix) → Shown rows c.args.self.now.asked m → set_fault equal no_labels m.places p v ≡ Some e = λ m s. sym (same_refusal rows v c.row-row.result c.row-row.ensures found c.holder.ensures m.places s.held p) ∙ refused (set_refusal p [] (get_or rows p None) found) tt e checked in
+    let checked : Err e ≡ answer (set_refusal p [] (get_or places p None) found) tt = sym c.in_err-check_set.was ∙ c.check_set.ensures ∙ ap (λ (o : Option Prefix). answer (set_refusal p [] o found) tt) c.held.ensures in
+    let fault : (m : Meaning Prefix) → Shown places c.args.self.now.asked m → set_fault equal no_labels m.places p v ≡ Some e = λ m s. ap (λ (xs : List (Option Prefix)). set_fault equal no_labels xs p v) (sym s.held) ∙ sym (same_refusal places v found c.holder.ensures p) ∙ refused (set_refusal p [] (get_or places p None) found) tt e checked in
     record {
       result = λ m s. is ∙ sym (ap (λ (f : Option Fault). answer f tt) (fault m s));
-      held = λ m s. subst (λ (f : Option Fault). Shown rows c.args.self.now.asked (unless f m (put m p (Some v)))) (sym (fault m s)) s;
+      held = λ m s. subst (λ (f : Option Fault). Shown places c.args.self.now.asked (unless f m (put m p (Some v)))) (sym (fault m s)) s;
       kept = λ _. refl;
       asked = λ l h. h;
     }
 
 pub put-requires : goal.put-requires
 put-requires c =
-    let rows = c.args.self.now.tree.tables.rows in
+    let places = c.args.self.now.tree.tables.places in
     let p = c.args.place in
     let found = c.holder.result in
-    let ok = settable p (get_or rows p None) c.row.result found c.row.ensures (sym c.in_ok-check_set.was ∙ c.check_set.ensures) in
+    let ok = settable p (get_or places p None) c.held.result found c.held.ensures (sym c.in_ok-check_set.was ∙ c.check_set.ensures) in
     record {
       within = ok.0;
-      lawful = subst Lawful (sym c.row-row.ensures) (lawful_value c.args.value);
-      walked = along c.args.self.now.tree.tables c.row-row.result.address c.row-row.result.length c.walk-path.result.items c.as_slice-path.result.now c.as_slice-path.ensures.value c.walk-path.ensures;
+      walked = along_value c.args.self.now.tree.tables c.args.value c.row-row.result c.walk-path.result.items c.as_slice-path.result.now c.row-row.ensures c.as_slice-path.ensures.value c.walk-path.ensures;
       vacant = ok.1;
-      new = new_from rows c.args.value c.row-row.result c.row-row.ensures found c.holder.ensures ok.2;
+      new = new_from places c.args.value found c.holder.ensures ok.2;
     }
 
 pub returns : goal.returns
 returns c =
-    let rows = c.args.self.now.tree.tables.rows in
+    let places = c.args.self.now.tree.tables.places in
     let p = c.args.place in
     let v = c.args.value in
-    let row = c.row-row.result in
     let found = c.holder.result in
-    let ok = settable p (get_or rows p None) c.row.result found c.row.ensures (sym c.in_ok-check_set.was ∙ c.check_set.ensures) in
-    let fault : (m : Meaning Prefix) → Shown rows c.args.self.now.asked m → set_fault equal no_labels m.places p v ≡ None = λ m s. sym (same_refusal rows v row c.row-row.ensures found c.holder.ensures m.places s.held p) ∙ ok.3 in
+    let ok = settable p (get_or places p None) c.held.result found c.held.ensures (sym c.in_ok-check_set.was ∙ c.check_set.ensures) in
+    let fault : (m : Meaning Prefix) → Shown places c.args.self.now.asked m → set_fault equal no_labels m.places p v ≡ None = λ m s. ap (λ (xs : List (Option Prefix)). set_fault equal no_labels xs p v) (sym s.held) ∙ sym (same_refusal places v found c.holder.ensures p) ∙ ok.3 in
     record {
       result = λ m s. sym (ap (λ (f : Option Fault). answer f tt) (fault m s));
-      held = λ m s. subst (λ (f : Option Fault). Shown c.put.new.self.tables.rows c.args.self.now.asked (unless f m (put m p (Some v)))) (sym (fault m s)) record {
-        held = c.put.ensures
-            ∙ ap (λ (xs : List (Option PrefixRow)). set xs p (Some row)) s.held
-            ∙ ap (λ (r : PrefixRow). set (rows_of m.places) p (Some r)) c.row-row.ensures
-            ∙ map_rows_set m.places p (Some v);
+      held = λ m s. subst (λ (f : Option Fault). Shown c.put.new.self.tables.places c.args.self.now.asked (unless f m (put m p (Some v)))) (sym (fault m s)) record {
+        held = c.put.ensures ∙ ap (λ (xs : List (Option Prefix)). set xs p (Some v)) s.held;
         counted = s.counted;
         small = s.small;
       };
