@@ -1,15 +1,21 @@
 -- A free node becomes a child.
-use Rattle.std.proofs.Common.{◌≡◌, ℕ, zero, suc, ◌+◌, ◌*◌, ◌/◌, ◌^◌, ◌<◌, Bool, cond, eqb, ◌≢◌, ◌⊎◌, List, ◌∷◌, get_or, set, Option, sym, refl, ap, ◌∙◌, subst, inl, inr, ⊎_elim, arith, length-set}
+use Rattle.std.proofs.Common.{◌≡◌, ℕ, zero, suc, ◌+◌, ◌*◌, ◌/◌, ◌^◌, ◌<◌, Bool, cond, eqb, ◌≢◌, ◌⊎◌, List, [], ◌∷◌, ◌++◌, length, set, Some, None, Option, sym, refl, ap, ◌∙◌, subst, inl, inr, ⊎_elim, arith, length-set}
 use Rattle.std.proofs.lemmas.List.{get_or-set_same, get_or-set_other}
 use Rattle.std.proofs.lemmas.Bool.{cases_eq, eq-eqb, ne_eqb}
+use Rattle.std.proofs.lemmas.Option.{none-some, same_Some}
 use Rattle.trie.specs.declared.nodes.Node.{Node}
 use Rattle.trie.specs.Strings.{Among}
-use Rattle.trie.specs.Trees.{blank, at, child, Whole, Shape, Stack, Named, Listed, is, linked}
+use Rattle.trie.specs.Trees.{blank, no_node, at, child, Whole, Shape, Stack, Named, Listed, is, linked}
 use Rattle.trie.specs.Bitstrings.{shorter, shift_in, shift_none, same_parent}
-use Rattle.trie.proofs.Links.{kid_same, kid_other, pick_none}
+use Rattle.trie.specs.Counting.{among_front, distinct_front}
+
+pub blank_leaf : (d : ℕ) → child blank d ≡ None
+blank_leaf zero = refl
+blank_leaf (suc zero) = refl
+blank_leaf (suc (suc d)) = refl
 
 -- the free node n becomes the child of i at the bit b
-module _ (key : ℕ → ℕ) (nodes : List Node) (n i b : ℕ) (s : Shape key nodes) (li : 0 < key i) (ln : n < 3073) (pn : 0 < n) (idle : key n ≡ 0) (lb : b < 2) (gap : child (at nodes i) b ≡ 0) where
+module _ (key : ℕ → ℕ) (nodes : List Node) (n i b : ℕ) (s : Shape key nodes) (li : 0 < key i) (ln : n < 3073) (pn : 0 < n) (idle : key n ≡ 0) (lb : b < 2) (gap : child (at nodes i) b ≡ None) where
   abbrev v : ℕ
   v = 2 * key i + b
 
@@ -17,25 +23,25 @@ module _ (key : ℕ → ℕ) (nodes : List Node) (n i b : ℕ) (s : Shape key no
   one = set nodes n blank
 
   abbrev two : List Node
-  two = set one i (linked (at nodes i) b n)
+  two = set one i (linked (at nodes i) b (Some n))
 
   not_n : (j : ℕ) → 0 < key j → j ≡ n → ⊥
   not_n j h e = omega (arith, ap key e)
 
   made : at two n ≡ blank
-  made = let ne : n ≢ i = λ e. not_n i li (sym e) in get_or-set_other one i n (linked (at nodes i) b n) blank ne ∙ get_or-set_same nodes n blank blank (omega (arith, s.size))
+  made = let ne : n ≢ i = λ e. not_n i li (sym e) in get_or-set_other one i n (linked (at nodes i) b (Some n)) no_node ne ∙ get_or-set_same nodes n blank no_node (omega (arith, s.size))
 
   off : (j : ℕ) → 0 < key j → at one j ≡ at nodes j
-  off j h = let ne : j ≢ n = not_n j h in get_or-set_other nodes n j blank blank ne
+  off j h = let ne : j ≢ n = not_n j h in get_or-set_other nodes n j blank no_node ne
 
-  here : at two i ≡ linked (at nodes i) b n
-  here = get_or-set_same one i (linked (at nodes i) b n) blank (omega (arith, s.size, s.bound i li, length-set nodes n blank))
+  here : at two i ≡ linked (at nodes i) b (Some n)
+  here = get_or-set_same one i (linked (at nodes i) b (Some n)) no_node (omega (arith, s.size, s.bound i li, length-set nodes n blank))
 
   -- a part that the new link leaves
-  part : {X : Type 0} (f : Node → X) → f (linked (at nodes i) b n) ≡ f (at nodes i) → (j : ℕ) → 0 < key j → f (at two j) ≡ f (at nodes j)
+  part : {X : Type 0} (f : Node → X) → f (linked (at nodes i) b (Some n)) ≡ f (at nodes i) → (j : ℕ) → 0 < key j → f (at two j) ≡ f (at nodes j)
   part f e j h = ⊎_elim
       (λ (w : j ≡ i). subst (λ (k : ℕ). f (at two k) ≡ f (at nodes k)) (sym w) (ap f here ∙ e))
-      (λ (ne : j ≡ i → ⊥). ap f (get_or-set_other one i j (linked (at nodes i) b n) blank ne ∙ off j h))
+      (λ (ne : j ≡ i → ⊥). ap f (get_or-set_other one i j (linked (at nodes i) b (Some n)) no_node ne ∙ off j h))
       (cases_eq j i)
 
   abbrev key' : ℕ → ℕ
@@ -47,19 +53,19 @@ module _ (key : ℕ → ℕ) (nodes : List Node) (n i b : ℕ) (s : Shape key no
   old_key : (j : ℕ) → 0 < key j → key' j ≡ key j
   old_key j h = away j (not_n j h)
 
-  key_new : key' n ≡ v
+  pub key_new : key' n ≡ v
   key_new = ap (λ (x : Bool). cond x v (key n)) (eq-eqb n n refl)
 
-  leaf : (d : ℕ) → child (at two n) d ≡ 0
-  leaf d = ap (λ (m : Node). child m d) made ∙ pick_none (eqb d 0)
+  pub leaf : (d : ℕ) → child (at two n) d ≡ None
+  leaf d = ap (λ (m : Node). child m d) made ∙ blank_leaf d
 
-  edge : (j d : ℕ) → d < 2 → 0 < key j → ((j ≡ i) × (d ≡ b) × (child (at two j) d ≡ n)) ⊎ (child (at two j) d ≡ child (at nodes j) d)
-  edge j d ld h = ⊎_elim
+  edge : (j d : ℕ) → 0 < key j → ((j ≡ i) × (d ≡ b) × (child (at two j) d ≡ Some n)) ⊎ (child (at two j) d ≡ child (at nodes j) d)
+  edge j d h = ⊎_elim
       (λ (e : d ≡ b). ⊎_elim
-      (λ (w : j ≡ i). inl (w, e, ap (λ (k : ℕ). child (at two k) d) w ∙ ap (λ (m : Node). child m d) here ∙ ap (child (linked (at nodes i) b n)) e ∙ kid_same (at nodes i) b n))
-      (λ (ne : j ≡ i → ⊥). inr (ap (λ (m : Node). child m d) (get_or-set_other one i j (linked (at nodes i) b n) blank ne ∙ off j h)))
+      (λ (w : j ≡ i). inl (w, e, ap (λ (k : ℕ). child (at two k) d) w ∙ ap (λ (m : Node). child m d) here ∙ ap (child (linked (at nodes i) b (Some n))) e ∙ get_or-set_same (at nodes i).children b (Some n) None (omega (arith, s.both i li))))
+      (λ (ne : j ≡ i → ⊥). inr (ap (λ (m : Node). child m d) (get_or-set_other one i j (linked (at nodes i) b (Some n)) no_node ne ∙ off j h)))
       (cases_eq j i))
-      (λ (ne : d ≡ b → ⊥). inr (part (λ m. child m d) (kid_other (at nodes i) b d n lb ld ne) j h))
+      (λ (ne : d ≡ b → ⊥). inr (part (λ m. child m d) (get_or-set_other (at nodes i).children b d (Some n) None ne) j h))
       (cases_eq d b)
 
   old_or_new : (j : ℕ) → 0 < key' j → (0 < key j) ⊎ (j ≡ n)
@@ -69,9 +75,9 @@ module _ (key : ℕ → ℕ) (nodes : List Node) (n i b : ℕ) (s : Shape key no
   keep : (x : ℕ) → Whole key nodes x → Whole key' two x
   keep x w j d m lj ld z e = ⊎_elim
       (λ (h : 0 < key j). ⊎_elim
-      (λ (q : (j ≡ i) × (d ≡ b) × (child (at two j) d ≡ n)). omega arith)
+      (λ (q : (j ≡ i) × (d ≡ b) × (child (at two j) d ≡ Some n)). absurd (none-some n (sym z ∙ q.2)))
       (λ (q : child (at two j) d ≡ child (at nodes j) d). w j d m h ld (sym q ∙ z) (e ∙ ap (λ (k : ℕ). 2 * k + d) (old_key j h)))
-      (edge j d ld h))
+      (edge j d h))
       (λ (h : j ≡ n). w i b (m + 1) li lb gap (shorter x m v d ld (e ∙ ap (λ (k : ℕ). 2 * key' k + d) h ∙ ap (λ (k : ℕ). 2 * k + d) key_new)))
       (old_or_new j lj)
 
@@ -81,14 +87,14 @@ module _ (key : ℕ → ℕ) (nodes : List Node) (n i b : ℕ) (s : Shape key no
   whole_new : Whole key' two v
   whole_new j d zero lj ld z e = ⊎_elim
       (λ (h : 0 < key j). ⊎_elim
-      (λ (q : (j ≡ i) × (d ≡ b) × (child (at two j) d ≡ n)). omega arith)
+      (λ (q : (j ≡ i) × (d ≡ b) × (child (at two j) d ≡ Some n)). absurd (none-some n (sym z ∙ q.2)))
       (λ (q : child (at two j) d ≡ child (at nodes j) d).
       let r = same_parent (key i) (key' j) d b ld lb (sym (shift_none v) ∙ e) in
       let same : j ≡ i = s.single j i h li (sym (old_key j h) ∙ sym r.0) in
-      let u : child (at two i) b ≡ n = ap (λ (m : Node). child m b) here ∙ kid_same (at nodes i) b n in
-      let t : child (at two j) d ≡ n = ap (λ (k : ℕ). child (at two k) d) same ∙ ap (child (at two i)) (sym r.1) ∙ u in
-      omega arith)
-      (edge j d ld h))
+      let u : child (at two i) b ≡ Some n = ap (λ (m : Node). child m b) here ∙ get_or-set_same (at nodes i).children b (Some n) None (omega (arith, s.both i li)) in
+      let t : child (at two j) d ≡ Some n = ap (λ (k : ℕ). child (at two k) d) same ∙ ap (child (at two i)) (sym r.1) ∙ u in
+      absurd (none-some n (sym z ∙ t)))
+      (edge j d h))
       (λ (h : j ≡ n).
       let t : key' j ≡ v = ap key' h ∙ key_new in
       omega (arith, shift_none v))
@@ -99,29 +105,24 @@ module _ (key : ℕ → ℕ) (nodes : List Node) (n i b : ℕ) (s : Shape key no
 
   pub grown : Shape key' two
   grown = record {
-    size = length-set one i (linked (at nodes i) b n) ∙ length-set nodes n blank ∙ s.size;
+    size = length-set one i (linked (at nodes i) b (Some n)) ∙ length-set nodes n blank ∙ s.size;
+    both = λ j lj. ⊎_elim
+        (λ (h : 0 < key j). part (λ x. length x.children) (length-set (at nodes i).children b (Some n)) j h ∙ s.both j h)
+        (λ (h : j ≡ n). ap (λ (k : ℕ). length (at two k).children) h ∙ ap (λ (x : Node). length x.children) made)
+        (old_or_new j lj);
     bound = λ j lj. ⊎_elim (λ (h : 0 < key j). s.bound j h) (λ (h : j ≡ n). omega arith) (old_or_new j lj);
     root = old_key 0 (omega (arith, s.root)) ∙ s.root;
-    inside = λ j d ld lj p. ⊎_elim
+    next = λ j d c ld lj p. ⊎_elim
         (λ (h : 0 < key j). ⊎_elim
-        (λ (q : (j ≡ i) × (d ≡ b) × (child (at two j) d ≡ n)). subst (λ (k : ℕ). 0 < k) (sym (ap key' q.2 ∙ key_new)) (omega arith))
-        (λ (q : child (at two j) d ≡ child (at nodes j) d).
-        let c = s.inside j d ld h (subst (λ (k : ℕ). 0 < k) q p) in
-        subst (λ (k : ℕ). 0 < k) (sym (ap key' q ∙ old_key (child (at nodes j) d) c)) c)
-        (edge j d ld h))
-        (λ (h : j ≡ n). absurd (omega (arith, leaf d, ap (λ (k : ℕ). child (at two k) d) h)))
-        (old_or_new j lj);
-    next = λ j d ld lj p. ⊎_elim
-        (λ (h : 0 < key j). ⊎_elim
-        (λ (q : (j ≡ i) × (d ≡ b) × (child (at two j) d ≡ n)).
-        let t : key' (child (at two j) d) ≡ v = ap key' q.2 ∙ key_new in
+        (λ (q : (j ≡ i) × (d ≡ b) × (child (at two j) d ≡ Some n)).
+        let t : key' c ≡ v = ap key' (same_Some c n (sym p ∙ q.2)) ∙ key_new in
         let u : key' j ≡ key i = ap key' q.0 ∙ old_key i li in
         omega (arith, q.1))
         (λ (q : child (at two j) d ≡ child (at nodes j) d).
-        let r = subst (λ (k : ℕ). 0 < k) q p in
-        ap key' q ∙ old_key (child (at nodes j) d) (s.inside j d ld h r) ∙ s.next j d ld h r ∙ ap (λ (k : ℕ). 2 * k + d) (sym (old_key j h)))
-        (edge j d ld h))
-        (λ (h : j ≡ n). absurd (omega (arith, leaf d, ap (λ (k : ℕ). child (at two k) d) h)))
+        let e = s.next j d c ld h (sym q ∙ p) in
+        old_key c (omega arith) ∙ e ∙ ap (λ (k : ℕ). 2 * k + d) (sym (old_key j h)))
+        (edge j d h))
+        (λ (h : j ≡ n). absurd (none-some c (sym (ap (λ (k : ℕ). child (at two k) d) h ∙ leaf d) ∙ p)))
         (old_or_new j lj);
     single = λ j m lj lm e. ⊎_elim
         (λ (h : 0 < key j). ⊎_elim
@@ -171,18 +172,12 @@ module _ (key : ℕ → ℕ) (nodes : List Node) (n i b : ℕ) (s : Shape key no
       (λ (h : j ≡ n). subst P (sym (ap key' h ∙ key_new)) new)
       (old_or_new j lj)
 
-  pub grown_leaf : (d : ℕ) → child (at two n) d ≡ 0
-  grown_leaf d = leaf d
-
-  pub grown_key : key' n ≡ v
-  grown_key = key_new
-
-  pub grown_stack : (free : List ℕ) (spare : ℕ) → Stack key free (spare + 1) → get_or free spare 0 ≡ n → Stack key' free spare
-  grown_stack free spare st top = record {
-    deep = st.deep;
-    room = omega (arith, st.room);
-    low = λ t h. st.low t (omega arith);
-    some = λ t h. st.some t (omega arith);
-    idle = λ t h. away (get_or free t 0) (λ e. let same : t ≡ spare = st.apart t spare (omega arith) (omega arith) (e ∙ sym top) in omega arith) ∙ st.idle t (omega arith);
-    apart = λ t u h g e. st.apart t u (omega arith) (omega arith) e;
-  }
+  pub grown_stack : (free : List ℕ) → Stack key (free ++ n ∷ []) → Stack key' free
+  grown_stack free st =
+      let d = distinct_front n free st.once in
+      record {
+        low = λ m a. st.low m (among_front m n free a);
+        some = λ m a. st.some m (among_front m n free a);
+        idle = λ m a. away m (λ e. d.1 (subst (λ (x : ℕ). Among x free) e a)) ∙ st.idle m (among_front m n free a);
+        once = d.0;
+      }

@@ -1,4 +1,3 @@
-pub mod Links
 pub mod Grown
 pub mod Freed
 pub mod Begun

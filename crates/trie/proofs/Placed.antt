@@ -1,20 +1,21 @@
 -- What set, clear and match answer, from the rows.
-use Rattle.std.proofs.Common.{◌≡◌, ℕ, ◌+◌, ◌%◌, ◌^◌, ◌<◌, Bool, true, false, ◌||◌, eqb, ltb, List, [], ◌∷◌, map, length, get_or, replicate, Some, None, Ok, Option, sym, refl, ap, ◌∙◌, arith}
+use Rattle.std.proofs.Common.{◌≡◌, ℕ, ◌+◌, ◌%◌, ◌^◌, ◌<◌, ◌≤◌, Bool, true, false, cond, ◌||◌, ◌⊎◌, eqb, ltb, List, [], ◌∷◌, map, length, get_or, replicate, Some, None, Ok, Err, Option, Result, sym, refl, ap, ◌∙◌, inl, inr, ⊎_elim, arith}
 use Rattle.std.proofs.lemmas.List.{length-map, get_or-map, get_or-replicate, ext_get_or}
-use Rattle.std.proofs.lemmas.Bool.{cond-false, eq-eqb, eqb-true, both_ways}
+use Rattle.std.proofs.lemmas.Bool.{ltb-false, ltb-true, eq-eqb, eqb-true, both_ways}
 use Rattle.fields.specs.declared.faults.Fault.{Fault}
-use Rattle.fields.specs.declared.faults.Fault.TheVariants.{Label, Full, Elsewhere}
+use Rattle.fields.specs.declared.faults.Fault.TheVariants.{Label, Full}
 use Rattle.fields.specs.Faults.{when, first_fault, answer}
 use Rattle.fields.specs.declared.prefixes.Prefix.{Prefix}
-use Rattle.fields.specs.declared.prefixes.PrefixRow.{PrefixRow}
 use Rattle.fields.specs.Prefixes.{same_prefix, prefix_takes}
 use Rattle.fields.proofs.Values.{prefix_decides}
-use Rattle.parts.specs.Meaning.{find, full, label_fault, elsewhere, set_fault}
+use Rattle.parts.specs.Meaning.{find, full, label_fault, elsewhere, set_fault, taken}
+use Rattle.parts.specs.Checks.{set_refusal, taken_from}
 use Rattle.parts.specs.Marks.{hit}
 use Rattle.trie.specs.Strings.{code, codes}
-use Rattle.trie.specs.Trees.{is, covers, hits}
-use Rattle.trie.specs.Shown.{row_of, rows_of}
-use Rattle.trie.specs.Meant.{rows_at, find_none, find_some, code_held, held_code, some_from}
+use Rattle.trie.specs.Trees.{is, hits}
+use Rattle.trie.specs.Uses.{some_or_none}
+use Rattle.trie.specs.Bitstrings.{same_code}
+use Rattle.trie.specs.Meant.{find_none, find_some}
 
 abbrev pub equal : Prefix → Prefix → Bool
 equal a b = same_prefix a.row b.row
@@ -22,82 +23,80 @@ equal a b = same_prefix a.row b.row
 abbrev pub no_labels : Prefix → List ℕ
 no_labels v = []
 
-module _ (xs : List (Option Prefix)) (l : ℕ) (v : Prefix) (low : ltb 95 l ≡ false) where
-  label_fine : label_fault (l ∷ []) ≡ None
-  label_fine = cond-false (ltb 95 l) (Some (Label l)) None low
+-- an answer that is no refusal
+pub unfaulted : {A : Type 0} (f : Option Fault) (a b : A) → Ok b ≡ answer f a → f ≡ None
+unfaulted None a b e = refl
+unfaulted (Some x) a b e = absurd (let z : ◌≡◌ {A = ℕ} 0 1 = cc in omega arith)
 
-  pub fault_full : full (get_or xs l None) ≡ true → set_fault equal no_labels xs l v ≡ Some (Full l)
-  fault_full e =
-      ap (λ (f : Option Fault). first_fault (f ∷ when (full (get_or xs l None)) (Full l) ∷ elsewhere (find equal xs v) ∷ [])) label_fine
-      ∙ ap (λ (b : Bool). first_fault (None ∷ when b (Full l) ∷ elsewhere (find equal xs v) ∷ [])) e
+-- what a call that is not refused, or is, was asked
+pub refused : {A : Type 0} (f : Option Fault) (a : A) (e : Fault) → Err e ≡ answer f a → f ≡ Some e
+refused None a e h = absurd (let z : ◌≡◌ {A = ℕ} 0 1 = cc in omega arith)
+refused (Some x) a e h = ap Some (let q : x ≡ e = cc in q)
 
-  vacant_fault : full (get_or xs l None) ≡ false → set_fault equal no_labels xs l v ≡ first_fault (None ∷ None ∷ elsewhere (find equal xs v) ∷ [])
-  vacant_fault e =
-      ap (λ (f : Option Fault). first_fault (f ∷ when (full (get_or xs l None)) (Full l) ∷ elsewhere (find equal xs v) ∷ [])) label_fine
-      ∙ ap (λ (b : Bool). first_fault (None ∷ when b (Full l) ∷ elsewhere (find equal xs v) ∷ [])) e
+nothing_wrong : (b : Bool) (f g : Fault) (held : Option Prefix) (found : Option ℕ) → first_fault (cond b (Some f) None ∷ when (full held) g ∷ elsewhere found ∷ []) ≡ None → (b ≡ false) × (held ≡ None) × (found ≡ None)
+nothing_wrong true f g held found e = absurd (let z : ◌≡◌ {A = ℕ} 0 1 = cc in omega arith)
+nothing_wrong false f g (Some r) found e = absurd (let z : ◌≡◌ {A = ℕ} 0 1 = cc in omega arith)
+nothing_wrong false f g None (Some l) e = absurd (let z : ◌≡◌ {A = ℕ} 0 1 = cc in omega arith)
+nothing_wrong false f g None None e = (refl, refl, refl)
 
-  pub fault_elsewhere : (k : ℕ) → full (get_or xs l None) ≡ false → find equal xs v ≡ Some k → set_fault equal no_labels xs l v ≡ Some (Elsewhere k)
-  fault_elsewhere k e f = vacant_fault e ∙ ap (λ (o : Option ℕ). first_fault (None ∷ None ∷ elsewhere o ∷ [])) f
+taken_value : (b : Bool) (l : ℕ) (held : Option Prefix) (v : Prefix) → Ok v ≡ cond b (Err (Label l)) (taken l held) → (b ≡ false) × (held ≡ Some v)
+taken_value true l held v e = absurd (let z : ◌≡◌ {A = ℕ} 0 1 = cc in omega arith)
+taken_value false l None v e = absurd (let z : ◌≡◌ {A = ℕ} 0 1 = cc in omega arith)
+taken_value false l (Some r) v e = (refl, ap Some (let q : r ≡ v = cc in q))
 
-  pub fault_none : full (get_or xs l None) ≡ false → find equal xs v ≡ None → set_fault equal no_labels xs l v ≡ None
-  fault_none e f = vacant_fault e ∙ ap (λ (o : Option ℕ). first_fault (None ∷ None ∷ elsewhere o ∷ [])) f
+not_taken : (b : Bool) (l : ℕ) (o : Option Prefix) (e : Fault) → Err e ≡ cond b (Err (Label l)) (taken l o) → (b ≡ true) ⊎ (o ≡ None)
+not_taken true l o e h = inl refl
+not_taken false l None e h = inr refl
+not_taken false l (Some v) e h = absurd (let z : ◌≡◌ {A = ℕ} 0 1 = cc in omega arith)
 
--- a place is full if its row is
-pub full_from : (rows : List (Option PrefixRow)) (places : List (Option Prefix)) (l : ℕ) (r : PrefixRow) → rows ≡ rows_of places → get_or rows l None ≡ Some r → full (get_or places l None) ≡ true
-full_from rows places l r held e =
-    let q = some_from (get_or places l None) r (sym (rows_at places l) ∙ ap (λ (xs : List (Option PrefixRow)). get_or xs l None) (sym held) ∙ e) in
-    ap full q.1
+pub settable : (l : ℕ) (held read : Option Prefix) (found : Option ℕ) → read ≡ held → ◌≡◌ {A = Result (Unit {0}) Fault} (Ok tt) (answer (set_refusal l [] read found) tt) → (l < 96) × (held ≡ None) × (found ≡ None) × (set_refusal l [] held found ≡ None)
+settable l held read found same e =
+    let f = unfaulted {A = Unit {0}} (set_refusal l [] held found) tt tt (e ∙ ap (λ (o : Option Prefix). answer (set_refusal l [] o found) tt) same) in
+    let r = nothing_wrong (ltb 95 l) (Label l) (Full l) held found f in
+    (omega (arith, ltb-false 95 l r.0), r.1, r.2, f)
 
-full_none : (o : Option Prefix) → row_of o ≡ None → full o ≡ false
-full_none None e = refl
-full_none (Some v) e = absurd (let z : ◌≡◌ {A = ℕ} 0 1 = cc in omega arith)
+pub cleared_value : (l : ℕ) (held read : Option Prefix) (v : Prefix) → read ≡ held → Ok v ≡ taken_from l read → (ltb 95 l ≡ false) × (held ≡ Some v)
+cleared_value l held read v same e = taken_value (ltb 95 l) l held v (e ∙ ap (taken_from l) same)
 
-pub vacant_from : (rows : List (Option PrefixRow)) (places : List (Option Prefix)) (l : ℕ) → rows ≡ rows_of places → get_or rows l None ≡ None → full (get_or places l None) ≡ false
-vacant_from rows places l held e = full_none (get_or places l None) (sym (rows_at places l) ∙ ap (λ (xs : List (Option PrefixRow)). get_or xs l None) (sym held) ∙ e)
+pub not_cleared : (l : ℕ) (held read : Option Prefix) (e : Fault) → read ≡ held → Err e ≡ taken_from l read → (96 ≤ l) ⊎ (held ≡ None)
+not_cleared l held read e same h = ⊎_elim
+    (λ (past : ltb 95 l ≡ true). inl (omega (arith, ltb-true 95 l past)))
+    (λ (none : read ≡ None). inr (sym same ∙ none))
+    (not_taken (ltb 95 l) l read e h)
 
 -- the label at the end of the walk is where the value is held
-module _ (rows : List (Option PrefixRow)) (v : Prefix) (row : PrefixRow) (own : row ≡ v.row) (o : Option ℕ) (tells : (l : ℕ) → is o l ≡ eqb (codes rows l) (code (Some row))) where
-  told : (l : ℕ) → is o l ≡ eqb (codes rows l) (code (Some v.row))
-  told l = tells l ∙ ap (λ (r : PrefixRow). eqb (codes rows l) (code (Some r))) own
+module _ (places : List (Option Prefix)) (v : Prefix) (o : Option ℕ) (tells : (l : ℕ) → is o l ≡ eqb (codes places l) (code (Some v))) where
+  pub new_from : o ≡ None → (l : ℕ) → codes places l ≡ code (Some v) → ⊥
+  new_from e l h = both_ways (is o l) (ap (λ (x : Option ℕ). is x l) e) (tells l ∙ eq-eqb (codes places l) (code (Some v)) h)
 
-  pub new_from : o ≡ None → (l : ℕ) → codes rows l ≡ code (Some row) → ⊥
-  new_from e l h = both_ways (is o l) (ap (λ (x : Option ℕ). is x l) e) (tells l ∙ eq-eqb (codes rows l) (code (Some row)) h)
+  found_none : o ≡ None → find equal places v ≡ None
+  found_none e = find_none equal prefix_decides v places 0 (λ l h. new_from e l (ap code h))
 
-  module _ (places : List (Option Prefix)) (held : rows ≡ rows_of places) where
-    pub found_none : o ≡ None → find equal places v ≡ None
-    found_none e = find_none equal prefix_decides v places 0 (λ l h. both_ways (is o l) (ap (λ (x : Option ℕ). is x l) e) (told l ∙ eq-eqb (codes rows l) (code (Some v.row)) (code_held rows places held v l h)))
+  found_some : (k : ℕ) → o ≡ Some k → find equal places v ≡ Some k
+  found_some k e =
+      let here : is o k ≡ true = ap (λ (x : Option ℕ). is x k) e ∙ eq-eqb k k refl in
+      let c : codes places k ≡ code (Some v) = eqb-true (codes places k) (code (Some v)) (sym (tells k) ∙ here) in
+      let z : 0 + k ≡ k = omega arith in
+      find_some equal prefix_decides v places 0 k
+      (λ j h. sym (eqb-true k j (ap (λ (x : Option ℕ). is x j) (sym e) ∙ tells j ∙ eq-eqb (codes places j) (code (Some v)) (ap code h))))
+      (same_code (get_or places k None) v c)
+      ∙ ap Some z
 
-    pub found_some : (k : ℕ) → o ≡ Some k → find equal places v ≡ Some k
-    found_some k e =
-        let here : is o k ≡ true = ap (λ (x : Option ℕ). is x k) e ∙ eq-eqb k k refl in
-        let c : codes rows k ≡ code (Some v.row) = eqb-true (codes rows k) (code (Some v.row)) (sym (told k) ∙ here) in
-        let z : 0 + k ≡ k = omega arith in
-        find_some equal prefix_decides v places 0 k
-        (λ j h. sym (eqb-true k j (ap (λ (x : Option ℕ). is x j) (sym e) ∙ told j ∙ eq-eqb (codes rows j) (code (Some v.row)) (code_held rows places held v j h))))
-        (held_code rows places held v k c)
-        ∙ ap Some z
+  -- so set is refused as the meaning says
+  pub same_refusal : (l : ℕ) → set_refusal l [] (get_or places l None) o ≡ set_fault equal no_labels places l v
+  same_refusal l =
+      let found-is : o ≡ find equal places v = ⊎_elim (λ (n : o ≡ None). n ∙ sym (found_none n)) (λ (s : (k : ℕ) × (o ≡ Some k)). s.1 ∙ sym (found_some s.0 s.1)) (some_or_none o) in
+      ap (λ (f : Option ℕ). first_fault (label_fault (l ∷ []) ∷ when (full (get_or places l None)) (Full l) ∷ elsewhere f ∷ [])) found-is
 
 -- the marks of a walk are the values that take the number
-covers_hit : (a : ℕ) (o : Option Prefix) → covers a (row_of o) ≡ hit (λ v. prefix_takes v.row a) o
-covers_hit a None = refl
-covers_hit a (Some v) = refl
-
-pub marks_from : (rows : List (Option PrefixRow)) (places : List (Option Prefix)) (a : ℕ) (ms : List Bool) → rows ≡ rows_of places → length places ≡ 96 → length ms ≡ 96 → ((l : ℕ) → l < 96 → get_or ms l false ≡ (get_or (replicate 96 false) l false || hits rows a l)) → ms ≡ map (hit (λ v. prefix_takes v.row a)) places
-marks_from rows places a ms held size few h =
+pub marks_from : (places : List (Option Prefix)) (a : ℕ) (ms : List Bool) → length places ≡ 96 → length ms ≡ 96 → ((l : ℕ) → l < 96 → get_or ms l false ≡ (get_or (replicate 96 false) l false || hits places a l)) → ms ≡ map (hit (λ v. prefix_takes v.row a)) places
+marks_from places a ms size few h =
     ext_get_or false ms (map (hit (λ v. prefix_takes v.row a)) places) (few ∙ sym (length-map places (hit (λ v. prefix_takes v.row a)) ∙ size)) (λ l ll.
     let low : l < 96 = omega arith in
     let in-places : l < length places = omega arith in
     h l low
-    ∙ ap (λ (b : Bool). b || hits rows a l) (get_or-replicate 96 l false false low)
-    ∙ ap (λ (xs : List (Option PrefixRow)). covers a (get_or xs l None)) held
-    ∙ ap (covers a) (rows_at places l)
-    ∙ covers_hit a (get_or places l None)
+    ∙ ap (λ (b : Bool). b || hits places a l) (get_or-replicate 96 l false false low)
     ∙ sym (get_or-map (hit (λ v. prefix_takes v.row a)) places l None false in-places))
-
--- an answer that is no refusal
-pub answered : (f : Option Fault) (n k : ℕ) → Ok k ≡ answer f n → (f ≡ None) × (k ≡ n)
-answered None n k e = (refl, (let q : k ≡ n = cc in q))
-answered (Some x) n k e = absurd (let z : ◌≡◌ {A = ℕ} 0 1 = cc in omega arith)
 
 -- one question more
 pub counts_on : (n a : ℕ) → n % 2 ^ 32 ≡ a → (n + 1) % 2 ^ 32 ≡ (a + 1) % 2 ^ 32

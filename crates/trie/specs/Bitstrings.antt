@@ -4,9 +4,10 @@ use Rattle.std.proofs.Common.{sym, ap, subst, ◌∙◌, inl, inr, ⊎_elim, ari
 use Rattle.std.proofs.Math.Nat.{div-add-mod, mul-add-div_right}
 use Rattle.std.proofs.lemmas.Nat.{pow-add, shr_below, shr-shr, shr_split, mod_below}
 use Rattle.std.proofs.lemmas.Bool.{cases_order, cases_lt}
+use Rattle.fields.specs.declared.prefixes.Prefix.{Prefix}
 use Rattle.fields.specs.declared.prefixes.PrefixRow.{PrefixRow}
+use Rattle.fields.proofs.Values.{prefix_from_row}
 use Rattle.trie.specs.Strings.{string, bit_after, code, first_strings, Among}
-use Rattle.trie.specs.Trees.{Lawful, LawfulAt}
 
 -- numbers that go on by a bit
 pub half : (y b : ℕ) → b < 2 → (2 * y + b) / 2 ≡ y
@@ -83,21 +84,23 @@ agree_shorter a b k j lk lj e = sym (string_shift a j k lj lk) ∙ ap (λ (x : �
 row_same : (p q : PrefixRow) → p.address ≡ q.address → p.length ≡ q.length → p ≡ q
 row_same p q e f = λ i. record { address = e i; length = f i }
 
-pub code_same : (p q : PrefixRow) → Lawful p → Lawful q → code (Some p) ≡ code (Some q) → p ≡ q
-code_same p q c d e =
-    let same : p.length ≡ q.length = same_length p.address q.address p.length q.length c.fits d.fits c.short d.short e in
-    let k = 32 - p.length in
-    let k-is : 32 - q.length ≡ k = omega arith in
-    let cq : q.address % 2 ^ k ≡ 0 = subst (λ (x : ℕ). q.address % 2 ^ x ≡ 0) k-is d.clean in
-    let top : 2 ^ p.length ≡ 2 ^ q.length = ap (λ (x : ℕ). 2 ^ x) same in
-    let rest : q.address / 2 ^ (32 - q.length) ≡ q.address / 2 ^ k = ap (λ (x : ℕ). q.address / 2 ^ x) k-is in
-    let quot : p.address / 2 ^ k ≡ q.address / 2 ^ k = omega arith in
-    let prod : p.address / 2 ^ k * 2 ^ k ≡ q.address / 2 ^ k * 2 ^ k = ap (λ (x : ℕ). x * 2 ^ k) quot in
-    row_same p q (omega (arith, shr_split p.address k, shr_split q.address k, c.clean)) same
+code_same : (p q : Prefix) → code (Some p) ≡ code (Some q) → p ≡ q
+code_same p q e =
+    let a = p.row.address in
+    let b = q.row.address in
+    let same : p.row.length ≡ q.row.length = same_length a b p.row.length q.row.length p.fits q.fits p.short q.short e in
+    let k = 32 - p.row.length in
+    let k-is : 32 - q.row.length ≡ k = omega arith in
+    let cq : b % 2 ^ k ≡ 0 = subst (λ (x : ℕ). b % 2 ^ x ≡ 0) k-is q.clean in
+    let top : 2 ^ p.row.length ≡ 2 ^ q.row.length = ap (λ (x : ℕ). 2 ^ x) same in
+    let rest : b / 2 ^ (32 - q.row.length) ≡ b / 2 ^ k = ap (λ (x : ℕ). b / 2 ^ x) k-is in
+    let quot : a / 2 ^ k ≡ b / 2 ^ k = omega arith in
+    let prod : a / 2 ^ k * 2 ^ k ≡ b / 2 ^ k * 2 ^ k = ap (λ (x : ℕ). x * 2 ^ k) quot in
+    prefix_from_row p q (row_same p.row q.row (omega (arith, shr_split a k, shr_split b k, p.clean)) same)
 
-pub same_code : (o : Option PrefixRow) (p : PrefixRow) → LawfulAt o → Lawful p → code o ≡ code (Some p) → o ≡ Some p
-same_code None p c d e = absurd (omega (arith, string_pos p.address p.length))
-same_code (Some q) p c d e = ap Some (code_same q p c d e)
+pub same_code : (o : Option Prefix) (p : Prefix) → code o ≡ code (Some p) → o ≡ Some p
+same_code None p e = absurd (omega (arith, string_pos p.row.address p.row.length))
+same_code (Some q) p e = ap Some (code_same q p e)
 
 -- the non-empty strings of up to n bits
 pub among_strings : (a n v : ℕ) → Among v (first_strings a n) → (j : ℕ) × (0 < j) × (j ≤ n) × (v ≡ string a j)

@@ -1,10 +1,13 @@
 -- Lists of numbers without repetition: if one is part of another, it is no longer.
-use Rattle.std.specs.Prelude.{◌≡◌, ℕ, zero, suc, ◌+◌, ◌*◌, ◌≤◌, Bool, true, false, cond, ◌⊎◌, List, [], ◌∷◌, ◌++◌, length, Some, None, Option, ◌==◌, ◌≢◌, nat_eq, slice_index_or, refl}
+use Rattle.std.specs.Prelude.{◌≡◌, ℕ, zero, suc, ◌+◌, ◌*◌, ◌≤◌, true, false, cond, ◌⊎◌, List, [], ◌∷◌, ◌++◌, length, Some, None, Option, ◌==◌, ◌≢◌, nat_eq, slice_index_or, refl}
 use Rattle.std.proofs.Common.{sym, ap, subst, ◌∙◌, inl, inr, ⊎_elim, arith, length-append}
-use Rattle.std.proofs.lemmas.Bool.{cases_eq, cases_Bool, eq-eqb, ne_eqb, eqb-true, or_cases, or_left, or_right, cond-true, cond-false}
-use Rattle.fields.specs.declared.prefixes.PrefixRow.{PrefixRow}
-use Rattle.trie.specs.Strings.{first_strings, beginnings, all_beginnings, has, different, Among, Distinct, Begins}
-use Rattle.trie.specs.Trees.{LawfulAt}
+use Rattle.std.proofs.lemmas.Bool.{cases_eq, eq-eqb, ne_eqb, eqb-true, or_cases, or_left, or_right, cond-true, cond-false}
+use Rattle.std.specs.List.{AllByRecursion, IsDistinct}
+use Rattle.std.specs.Set.{distinct_count, is_member}
+use Rattle.std.specs.Cmp.{both_ways, nat_eq_equiv}
+use Rattle.std.proofs.lemmas.Map.Made.{length-le_from_is_member, length-from_keys}
+use Rattle.fields.specs.declared.prefixes.Prefix.{Prefix}
+use Rattle.trie.specs.Strings.{first_strings, beginnings, all_beginnings, Among, Distinct, Begins}
 
 -- a list without the first x in it
 abbrev pub without : ℕ → List ℕ → List ℕ
@@ -55,57 +58,30 @@ without_distinct x (y ∷ ys) d = ⊎_elim
     (λ (n : x ≡ y → ⊥). subst Distinct (sym (without_past x y ys n)) ((λ r. d.0 (without_only x y ys r)), without_distinct x ys d.1))
     (cases_eq x y)
 
+-- in the library's words
+among : (x : ℕ) (xs : List ℕ) → is_member nat_eq xs x ≡ true → Among x xs
+among x [] h = absurd (let z : ◌≡◌ {A = ℕ} 0 1 = cc in omega arith)
+among x (y ∷ ys) h = ⊎_elim (λ (e : nat_eq x y ≡ true). inl (eqb-true x y e)) (λ (e : is_member nat_eq ys x ≡ true). inr (among x ys e)) (or_cases (x == y) (is_member nat_eq ys x) h)
+
+member : (x : ℕ) (xs : List ℕ) → Among x xs → is_member nat_eq xs x ≡ true
+member x [] h = absurd h
+member x (y ∷ ys) h = ⊎_elim (λ (e : x ≡ y). or_left (x == y) (is_member nat_eq ys x) (eq-eqb x y e)) (λ (r : Among x ys). or_right (x == y) (is_member nat_eq ys x) (member x ys r)) h
+
+apart : (x : ℕ) (ys : List ℕ) → (Among x ys → ⊥) → AllByRecursion (λ y. nat_eq x y ≡ false) ys
+apart x [] h = tt
+apart x (y ∷ ys) h = (ne_eqb x y (λ e. h (inl e)), apart x ys (λ r. h (inr r)))
+
+keys : (xs : List ℕ) → Distinct xs → IsDistinct nat_eq xs
+unfolding IsDistinct
+keys [] d = tt
+keys (x ∷ xs) d = (apart x xs d.0, keys xs d.1)
+
 pub part_length : (xs ys : List ℕ) → Distinct xs → ((x : ℕ) → Among x xs → Among x ys) → length xs ≤ length ys
-part_length [] ys d h = omega arith
-part_length (x ∷ xs) ys d h =
-    let r : length xs ≤ length (without x ys) = part_length xs (without x ys) d.1 (λ z m. without_keeps x z ys (λ e. d.0 (subst (λ (w : ℕ). Among w xs) e m)) (h z (inr m))) in
-    omega (arith, without_length x ys (h x (inl refl)))
-
--- a list and its different elements
-has_among : (x : ℕ) (xs : List ℕ) → has x xs ≡ true → Among x xs
-has_among x [] h = absurd (let z : ◌≡◌ {A = ℕ} 0 1 = cc in omega arith)
-has_among x (y ∷ ys) h = ⊎_elim (λ (e : nat_eq x y ≡ true). inl (eqb-true x y e)) (λ (e : has x ys ≡ true). inr (has_among x ys e)) (or_cases (x == y) (has x ys) h)
-
-among_has : (x : ℕ) (xs : List ℕ) → Among x xs → has x xs ≡ true
-among_has x [] h = absurd h
-among_has x (y ∷ ys) h = ⊎_elim (λ (e : x ≡ y). or_left (x == y) (has x ys) (eq-eqb x y e)) (λ (r : Among x ys). or_right (x == y) (has x ys) (among_has x ys r)) h
-
-different_again : (x : ℕ) (xs : List ℕ) → has x xs ≡ true → different (x ∷ xs) ≡ different xs
-different_again x xs e = cond-true (has x xs) (different xs) (x ∷ different xs) e
-
-different_new : (x : ℕ) (xs : List ℕ) → has x xs ≡ false → different (x ∷ xs) ≡ x ∷ different xs
-different_new x xs e = cond-false (has x xs) (different xs) (x ∷ different xs) e
-
-different_all : (z : ℕ) (xs : List ℕ) → Among z xs → Among z (different xs)
-different_all z [] h = h
-different_all z (x ∷ xs) h = ⊎_elim
-    (λ (e : has x xs ≡ true). subst (Among z) (sym (different_again x xs e)) (⊎_elim (λ (q : z ≡ x). different_all z xs (subst (λ (w : ℕ). Among w xs) (sym q) (has_among x xs e))) (λ (r : Among z xs). different_all z xs r) h))
-    (λ (e : has x xs ≡ false). subst (Among z) (sym (different_new x xs e)) (⊎_elim (λ (q : z ≡ x). inl q) (λ (r : Among z xs). inr (different_all z xs r)) h))
-    (cases_Bool (has x xs))
-
-different_only : (z : ℕ) (xs : List ℕ) → Among z (different xs) → Among z xs
-different_only z [] h = h
-different_only z (x ∷ xs) h = ⊎_elim
-    (λ (e : has x xs ≡ true). inr (different_only z xs (subst (Among z) (different_again x xs e) h)))
-    (λ (e : has x xs ≡ false). ⊎_elim (λ (q : z ≡ x). inl q) (λ (r : Among z (different xs)). inr (different_only z xs r)) (subst (Among z) (different_new x xs e) h))
-    (cases_Bool (has x xs))
-
-different_distinct : (xs : List ℕ) → Distinct (different xs)
-different_distinct [] = tt
-different_distinct (x ∷ xs) = ⊎_elim
-    (λ (e : has x xs ≡ true). subst Distinct (sym (different_again x xs e)) (different_distinct xs))
-    (λ (e : has x xs ≡ false). subst Distinct (sym (different_new x xs e)) ((λ r. let z : ◌≡◌ {A = Bool} true false = sym (among_has x xs (different_only x xs r)) ∙ e in absurd (let w : ◌≡◌ {A = ℕ} 0 1 = cc in omega arith)), different_distinct xs))
-    (cases_Bool (has x xs))
+part_length xs ys d h = length-le_from_is_member nat_eq_equiv xs ys (keys xs d) (λ q e. member q ys (h q (among q xs e)))
 
 -- the length of a list without repetition that has the same elements
-pub count_different : (ks xs : List ℕ) → Distinct ks → ((v : ℕ) → Among v ks → Among v xs) → ((v : ℕ) → Among v xs → Among v ks) → length ks ≡ length (different xs)
-count_different ks xs d f g =
-    let up : length ks ≤ length (different xs) = part_length ks (different xs) d (λ v m. different_all v xs (f v m)) in
-    let down : length (different xs) ≤ length ks = part_length (different xs) ks (different_distinct xs) (λ v m. g v (different_only v xs m)) in
-    omega arith
-
-pub different_few : (xs : List ℕ) → length (different xs) ≤ length xs
-different_few xs = part_length (different xs) xs (different_distinct xs) (λ v m. different_only v xs m)
+pub count_different : (ks xs : List ℕ) → Distinct ks → ((v : ℕ) → Among v ks → Among v xs) → ((v : ℕ) → Among v xs → Among v ks) → length ks ≡ distinct_count nat_eq xs
+count_different ks xs d f g = length-from_keys nat_eq_equiv ks xs (keys ks d) (λ q. both_ways (is_member nat_eq ks q) (is_member nat_eq xs q) (λ e. member q xs (f q (among q ks e))) (λ e. member q ks (g q (among q xs e))))
 
 -- the beginnings of all held prefixes
 among_left : (v : ℕ) (xs ys : List ℕ) → Among v xs → Among v (xs ++ ys)
@@ -123,12 +99,34 @@ among_either v (x ∷ xs) ys h = ⊎_elim
     (λ (r : Among v (xs ++ ys)). ⊎_elim (λ (p : Among v xs). inl (inr p)) (λ (q : Among v ys). inr q) (among_either v xs ys r))
     h
 
-pub begins_among : (rows : List (Option PrefixRow)) (v l : ℕ) → Among v (beginnings (slice_index_or rows l None)) → Among v (all_beginnings rows)
+-- one more at the end
+pub among_end : (v x : ℕ) (xs : List ℕ) → Among v (xs ++ x ∷ []) → Among v xs ⊎ (v ≡ x)
+among_end v x xs h = ⊎_elim (λ (p : Among v xs). inl p) (λ (q : Among v (x ∷ [])). inr (⊎_elim (λ (e : v ≡ x). e) (λ (n : ⊥). absurd n) q)) (among_either v xs (x ∷ []) h)
+
+pub among_front : (v x : ℕ) (xs : List ℕ) → Among v xs → Among v (xs ++ x ∷ [])
+among_front v x xs = among_left v xs (x ∷ [])
+
+pub among_last : (x : ℕ) (xs : List ℕ) → Among x (xs ++ x ∷ [])
+among_last x xs = among_right x xs (x ∷ []) (inl refl)
+
+pub distinct_more : (x : ℕ) (xs : List ℕ) → Distinct xs → (Among x xs → ⊥) → Distinct (xs ++ x ∷ [])
+distinct_more x [] d new = ((λ h. h), tt)
+distinct_more x (y ∷ ys) d new = ((λ h. ⊎_elim (λ (r : Among y ys). d.0 r) (λ (e : y ≡ x). new (inl (sym e))) (among_end y x ys h)), distinct_more x ys d.1 (λ r. new (inr r)))
+
+pub distinct_front : (x : ℕ) (xs : List ℕ) → Distinct (xs ++ x ∷ []) → Distinct xs × (Among x xs → ⊥)
+distinct_front x [] d = (tt, λ h. h)
+distinct_front x (y ∷ ys) d =
+    let r = distinct_front x ys d.1 in (
+      ((λ h. d.0 (among_front y x ys h)), r.0),
+      (λ h. ⊎_elim (λ (e : x ≡ y). d.0 (subst (λ (z : ℕ). Among z (ys ++ x ∷ [])) e (among_last x ys))) (λ (q : Among x ys). r.1 q) h),
+    )
+
+pub begins_among : (places : List (Option Prefix)) (v l : ℕ) → Among v (beginnings (slice_index_or places l None)) → Among v (all_beginnings places)
 begins_among [] v l h = absurd h
 begins_among (o ∷ os) v zero h = among_left v (beginnings o) (all_beginnings os) h
 begins_among (o ∷ os) v (suc l) h = among_right v (beginnings o) (all_beginnings os) (begins_among os v l h)
 
-pub among_begins : (rows : List (Option PrefixRow)) (v : ℕ) → Among v (all_beginnings rows) → Begins rows v
+pub among_begins : (places : List (Option Prefix)) (v : ℕ) → Among v (all_beginnings places) → Begins places v
 among_begins [] v h = absurd h
 among_begins (o ∷ os) v h = ⊎_elim
     (λ (p : Among v (beginnings o)). (0, p))
@@ -139,10 +137,10 @@ strings_length : (a k : ℕ) → length (first_strings a k) ≡ k
 strings_length a zero = refl
 strings_length a (suc k) = omega (arith, strings_length a k)
 
-beginnings_few : (o : Option PrefixRow) → LawfulAt o → length (beginnings o) ≤ 32
-beginnings_few None h = omega arith
-beginnings_few (Some r) h = omega (arith, strings_length r.address r.length, h.short)
+beginnings_few : (o : Option Prefix) → length (beginnings o) ≤ 32
+beginnings_few None = omega arith
+beginnings_few (Some v) = omega (arith, strings_length v.row.address v.row.length, v.short)
 
-pub all_few : (rows : List (Option PrefixRow)) → ((l : ℕ) → LawfulAt (slice_index_or rows l None)) → length (all_beginnings rows) ≤ 32 * length rows
-all_few [] h = omega arith
-all_few (o ∷ os) h = omega (arith, length-append (beginnings o) (all_beginnings os), beginnings_few o (h 0), all_few os (λ l. h (suc l)))
+pub all_few : (places : List (Option Prefix)) → length (all_beginnings places) ≤ 32 * length places
+all_few [] = omega arith
+all_few (o ∷ os) = omega (arith, length-append (beginnings o) (all_beginnings os), beginnings_few o, all_few os)

@@ -1,57 +1,26 @@
--- The values at the places, and their rows.
-use Rattle.std.specs.Prelude.{◌≡◌, ℕ, zero, suc, ◌+◌, ◌<◌, Bool, true, false, List, [], ◌∷◌, ◌++◌, length, Some, None, Decides, Option, ◌≢◌, slice_index_or, slice_set, refl}
+-- The values at the places.
+use Rattle.std.specs.Prelude.{◌≡◌, ℕ, zero, suc, ◌+◌, ◌<◌, Bool, true, false, List, [], ◌∷◌, ◌++◌, length, Some, None, Decides, Option, ◌≢◌, slice_index_or, nat_eq, refl}
 use Rattle.std.proofs.Common.{sym, ap, subst, ◌∙◌, ⊎_elim, arith}
 use Rattle.std.proofs.Math.Logic.{∥∥₁_elim}
 use Rattle.std.proofs.Math.Nat.{ℕ_set}
-use Rattle.std.proofs.lemmas.List.{length-map}
 use Rattle.std.proofs.lemmas.Bool.{cases_Bool, cond-true, cond-false}
+use Rattle.std.specs.Set.{distinct_count}
+use Rattle.std.proofs.lemmas.Map.Made.{distinct_count-le}
 use Rattle.fields.specs.declared.prefixes.Prefix.{Prefix}
-use Rattle.fields.specs.declared.prefixes.PrefixRow.{PrefixRow}
 use Rattle.parts.specs.Meaning.{at, find_from}
-use Rattle.trie.specs.declared.nodes.Tree.{Tree}
-use Rattle.trie.specs.Strings.{code, codes, beginnings, all_beginnings, different, row_count}
-use Rattle.trie.specs.Trees.{Lawful, LawfulAt, Good}
-use Rattle.trie.specs.Shown.{row_of, rows_of}
-use Rattle.trie.specs.Bitstrings.{same_code, string_pos}
+use Rattle.trie.specs.declared.nodes.Tables.{Tables}
+use Rattle.trie.specs.Strings.{code, codes, beginnings, all_beginnings, string_count}
+use Rattle.trie.specs.Trees.{Good}
+use Rattle.trie.specs.Bitstrings.{string_pos}
 use Rattle.trie.specs.Uses.{one_place}
-use Rattle.fields.proofs.Values.{prefix_from_row}
-
-pub rows_at : (places : List (Option Prefix)) (l : ℕ) → slice_index_or (rows_of places) l None ≡ row_of (slice_index_or places l None)
-rows_at [] l = refl
-rows_at (o ∷ os) zero = refl
-rows_at (o ∷ os) (suc l) = rows_at os l
-
-pub lawful_value : (v : Prefix) → Lawful v.row
-lawful_value v = record { short = v.short; fits = v.fits; clean = v.clean }
-
-lawful_of : (o : Option Prefix) → LawfulAt (row_of o)
-lawful_of None = tt
-lawful_of (Some v) = lawful_value v
-
-value_from : (o : Option Prefix) (v : Prefix) → row_of o ≡ Some v.row → o ≡ Some v
-value_from None v e = absurd (let z : ◌≡◌ {A = ℕ} 0 1 = cc in omega arith)
-value_from (Some w) v e = ap Some (prefix_from_row w v (let q : w.row ≡ v.row = cc in q))
-
-pub none_from : (o : Option Prefix) → row_of o ≡ None → o ≡ None
-none_from None e = refl
-none_from (Some w) e = absurd (let z : ◌≡◌ {A = ℕ} 0 1 = cc in omega arith)
-
-pub some_from : (o : Option Prefix) (r : PrefixRow) → row_of o ≡ Some r → (v : Prefix) × (o ≡ Some v) × (v.row ≡ r)
-some_from None r e = absurd (let z : ◌≡◌ {A = ℕ} 0 1 = cc in omega arith)
-some_from (Some w) r e = (w, refl, (let q : w.row ≡ r = cc in q))
-
-pub map_rows_set : (places : List (Option Prefix)) (l : ℕ) (o : Option Prefix) → slice_set (rows_of places) l (row_of o) ≡ rows_of (slice_set places l o)
-map_rows_set [] l o = refl
-map_rows_set (x ∷ xs) zero o = refl
-map_rows_set (x ∷ xs) (suc l) o = ap (λ (ys : List (Option PrefixRow)). row_of x ∷ ys) (map_rows_set xs l o)
 
 -- nothing held, no strings
-all_none : (places : List (Option Prefix)) → ((l : ℕ) → slice_index_or places l None ≡ None) → all_beginnings (rows_of places) ≡ []
+all_none : (places : List (Option Prefix)) → ((l : ℕ) → slice_index_or places l None ≡ None) → all_beginnings places ≡ []
 all_none [] h = refl
-all_none (o ∷ os) h = ap (λ (x : Option Prefix). beginnings (row_of x) ++ all_beginnings (rows_of os)) (h 0) ∙ all_none os (λ l. h (suc l))
+all_none (o ∷ os) h = ap (λ (x : Option Prefix). beginnings x ++ all_beginnings os) (h 0) ∙ all_none os (λ l. h (suc l))
 
-pub none_counted : (places : List (Option Prefix)) → ((l : ℕ) → slice_index_or places l None ≡ None) → row_count (rows_of places) ≡ 0
-none_counted places h = ap (λ (xs : List ℕ). length (different xs)) (all_none places h)
+pub none_counted : (places : List (Option Prefix)) → ((l : ℕ) → slice_index_or places l None ≡ None) → string_count places ≡ 0
+none_counted places h = omega (arith, ap (distinct_count nat_eq) (all_none places h), distinct_count-le nat_eq [])
 
 -- where a value is found
 module _ {V : Type 0} (eq : V → V → Bool) (decides : (a b : V) → Decides (eq a b) (a ≡ b)) (v : V) where
@@ -80,21 +49,12 @@ module _ {V : Type 0} (eq : V → V → Bool) (decides : (a b : V) → Decides (
       ∙ find_some xs (i + 1) l (λ k q. let z : suc k ≡ suc l = one (suc k) q in omega arith) h
       ∙ ap Some e
 
--- by the label at the end of a walk
-module _ (rows : List (Option PrefixRow)) (places : List (Option Prefix)) (held : rows ≡ rows_of places) (v : Prefix) where
-  pub code_held : (l : ℕ) → slice_index_or places l None ≡ Some v → codes rows l ≡ code (Some v.row)
-  code_held l e = ap (λ (xs : List (Option PrefixRow)). codes xs l) held ∙ ap code (rows_at places l) ∙ ap (λ (o : Option Prefix). code (row_of o)) e
+pub size_from : (t : Tables) (places : List (Option Prefix)) → ∥ Good t ∥₁ → t.places ≡ places → length places ≡ 96
+size_from t places g held = ∥∥₁_elim g (ℕ_set _ _) (λ q. ap length (sym held) ∙ q.frame.size)
 
-  pub held_code : (l : ℕ) → codes rows l ≡ code (Some v.row) → slice_index_or places l None ≡ Some v
-  held_code l e =
-      value_from (slice_index_or places l None) v
-      (same_code (row_of (slice_index_or places l None)) v.row (lawful_of (slice_index_or places l None)) (lawful_value v) (sym (ap (λ (xs : List (Option PrefixRow)). codes xs l) held ∙ ap code (rows_at places l)) ∙ e))
-
-pub size_from : (t : Tree) (places : List (Option Prefix)) → ∥ Good t ∥₁ → t.rows ≡ rows_of places → length places ≡ 96
-size_from t places g held = ∥∥₁_elim g (ℕ_set _ _) (λ q. sym (length-map places row_of) ∙ ap length (sym held) ∙ q.frame.size)
-
-pub single_from : (t : Tree) (places : List (Option Prefix)) → ∥ Good t ∥₁ → t.rows ≡ rows_of places → (i j : ℕ) (v : Prefix) → slice_index_or places i None ≡ Some v → slice_index_or places j None ≡ Some v → i ≡ j
+pub single_from : (t : Tables) (places : List (Option Prefix)) → ∥ Good t ∥₁ → t.places ≡ places → (i j : ℕ) (v : Prefix) → slice_index_or places i None ≡ Some v → slice_index_or places j None ≡ Some v → i ≡ j
 single_from t places g held i j v p q = ∥∥₁_elim g (ℕ_set _ _) (λ w.
-    let a = code_held t.rows places held v i p in
-    let b = code_held t.rows places held v j q in
+    let at_label : (l : ℕ) → slice_index_or places l None ≡ Some v → codes t.places l ≡ code (Some v) = λ l e. ap (λ (xs : List (Option Prefix)). codes xs l) held ∙ ap code e in
+    let a = at_label i p in
+    let b = at_label j q in
     one_place t w i j (subst (λ (x : ℕ). 0 < x) (sym a) (string_pos v.row.address v.row.length)) (a ∙ sym b))

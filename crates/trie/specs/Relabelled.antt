@@ -5,7 +5,7 @@ use Rattle.std.proofs.lemmas.List.{get_or-set_same, get_or-set_other}
 use Rattle.std.proofs.lemmas.Nat.{shr_le}
 use Rattle.std.proofs.lemmas.Bool.{cases_eq, eq-eqb, ne_eqb, eqb-true}
 use Rattle.trie.specs.declared.nodes.Node.{Node}
-use Rattle.trie.specs.Trees.{blank, at, child, Whole, Shape, Named, is, labelled}
+use Rattle.trie.specs.Trees.{no_node, at, child, Whole, Shape, Named, is, labelled}
 
 -- a node has one label
 pub one_label : (o : Option ℕ) (l m : ℕ) → is o l ≡ true → is o m ≡ true → l ≡ m
@@ -21,12 +21,12 @@ module _ (key : ℕ → ℕ) (nodes : List Node) (i : ℕ) (o : Option ℕ) (s :
   in_list = omega (arith, s.size, s.bound i li)
 
   at_i : at after i ≡ labelled (at nodes i) o
-  at_i = get_or-set_same nodes i (labelled (at nodes i) o) blank in_list
+  at_i = get_or-set_same nodes i (labelled (at nodes i) o) no_node in_list
 
   stays : {X : Type 0} (f : Node → X) → f (labelled (at nodes i) o) ≡ f (at nodes i) → (j : ℕ) → f (at after j) ≡ f (at nodes j)
   stays f e j = ⊎_elim
       (λ (w : j ≡ i). subst (λ (k : ℕ). f (at after k) ≡ f (at nodes k)) (sym w) (ap f at_i ∙ e))
-      (λ (ne : j ≡ i → ⊥). ap f (get_or-set_other nodes i j (labelled (at nodes i) o) blank ne))
+      (λ (ne : j ≡ i → ⊥). ap f (get_or-set_other nodes i j (labelled (at nodes i) o) no_node ne))
       (cases_eq j i)
 
   kid_stays : (d j : ℕ) → child (at after j) d ≡ child (at nodes j) d
@@ -38,10 +38,10 @@ module _ (key : ℕ → ℕ) (nodes : List Node) (i : ℕ) (o : Option ℕ) (s :
   pub relabelled : Shape key after
   relabelled = record {
     size = length-set nodes i (labelled (at nodes i) o) ∙ s.size;
+    both = λ j lj. stays (λ n. length n.children) refl j ∙ s.both j lj;
     bound = s.bound;
     root = s.root;
-    inside = λ j d ld lj p. subst (λ (k : ℕ). 0 < key k) (sym (kid_stays d j)) (s.inside j d ld lj (subst (λ (k : ℕ). 0 < k) (kid_stays d j) p));
-    next = λ j d ld lj p. ap key (kid_stays d j) ∙ s.next j d ld lj (subst (λ (k : ℕ). 0 < k) (kid_stays d j) p);
+    next = λ j d c ld lj p. s.next j d c ld lj (sym (kid_stays d j) ∙ p);
     single = s.single;
     whole = λ j lj. stays_whole (key j) (s.whole j lj);
   }
@@ -49,7 +49,7 @@ module _ (key : ℕ → ℕ) (nodes : List Node) (i : ℕ) (o : Option ℕ) (s :
   -- the label of the place p goes to the node i, or is wiped out
   module _ (c c' : ℕ → ℕ) (p : ℕ) (n : Named key nodes c) (rest : (l : ℕ) → (l ≢ p) → c' l ≡ c l) where
     off_label : (j l : ℕ) → 0 < key j → (j ≢ i) → is (at after j).label l ≡ (c l == key j)
-    off_label j l lj nw = ap (λ (m : Node). is m.label l) (get_or-set_other nodes i j (labelled (at nodes i) o) blank nw) ∙ n.names j l lj
+    off_label j l lj nw = ap (λ (m : Node). is m.label l) (get_or-set_other nodes i j (labelled (at nodes i) o) no_node nw) ∙ n.names j l lj
 
     pub set_names : o ≡ Some p → c p ≡ 0 → c' p ≡ key i → ((l : ℕ) → c l ≢ key i) → Named key after c'
     set_names is-p gone now alone = record {

@@ -1,26 +1,17 @@
--- What a trie engine shows: its rows are those of the values that the places hold.
-use Rattle.std.specs.Prelude.{◌≡◌, ℕ, ◌%◌, ◌^◌, ◌<◌, List, map, length, Some, None, Option}
+-- What a trie engine shows: the values that the places hold, and how often it was asked.
+use Rattle.std.specs.Prelude.{◌≡◌, ℕ, ◌%◌, ◌^◌, ◌<◌, List, length, Option}
 use Rattle.fields.specs.declared.prefixes.Prefix.{Prefix}
-use Rattle.fields.specs.declared.prefixes.PrefixRow.{PrefixRow}
 use Rattle.parts.specs.Meaning.{Meaning}
-use Rattle.trie.specs.Strings.{row_count}
+use Rattle.trie.specs.declared.tries.Trie.{Trie}
 
-abbrev pub row_of : Option Prefix → Option PrefixRow
-row_of None = None
-row_of (Some v) = Some v.row
-
-abbrev pub rows_of : List (Option Prefix) → List (Option PrefixRow)
-rows_of places = map row_of places
-
-pub record Shown (rows : List (Option PrefixRow)) (asked : ℕ) (m : Meaning Prefix) : Type 0 where
-  pub held : rows ≡ rows_of m.places
+pub record Shown (places : List (Option Prefix)) (asked : ℕ) (m : Meaning Prefix) : Type 0 where
+  pub held : places ≡ m.places
   pub counted : asked ≡ m.asked
   pub small : asked < 2 ^ 32
+
+abbrev pub Shows : Trie → Meaning Prefix → Type 0
+Shows t m = Shown t.tree.tables.places t.asked m
 
 -- which lists of questions agree with an asked number
 abbrev pub Agrees : ℕ → List ℕ → Type 0
 Agrees asked l = length l % 2 ^ 32 ≡ asked
-
--- how many different non-empty bit strings some held prefix begins with
-abbrev pub string_count : List (Option Prefix) → ℕ
-string_count places = row_count (rows_of places)

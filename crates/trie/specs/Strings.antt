@@ -1,6 +1,7 @@
 -- Bit strings as numbers: a 1 and then the bits, so the empty string is 1, and v goes on as 2 v or 2 v + 1.
-use Rattle.std.specs.Prelude.{◌≡◌, ℕ, zero, suc, ◌+◌, ◌-◌, ◌/◌, ◌%◌, ◌^◌, Bool, false, cond, ◌||◌, ◌⊎◌, List, [], ◌∷◌, ◌++◌, length, Some, None, Option, ◌==◌, slice_index_or}
-use Rattle.fields.specs.declared.prefixes.PrefixRow.{PrefixRow}
+use Rattle.std.specs.Prelude.{◌≡◌, ℕ, zero, suc, ◌+◌, ◌-◌, ◌/◌, ◌%◌, ◌^◌, ◌⊎◌, List, [], ◌∷◌, ◌++◌, Some, None, Option, nat_eq, slice_index_or}
+use Rattle.std.specs.Set.{distinct_count}
+use Rattle.fields.specs.declared.prefixes.Prefix.{Prefix}
 use Rattle.fields.specs.Prefixes.{first_bits}
 
 -- the first k bits of an address
@@ -12,12 +13,12 @@ abbrev pub bit_after : ℕ → ℕ → ℕ
 bit_after a k = a / 2 ^ (31 - k) % 2
 
 -- the bits of the prefix that a place holds, and 0 where it holds none
-abbrev pub code : Option PrefixRow → ℕ
+abbrev pub code : Option Prefix → ℕ
 code None = 0
-code (Some r) = string r.address r.length
+code (Some v) = string v.row.address v.row.length
 
-abbrev pub codes : List (Option PrefixRow) → ℕ → ℕ
-codes rows l = code (slice_index_or rows l None)
+abbrev pub codes : List (Option Prefix) → ℕ → ℕ
+codes places l = code (slice_index_or places l None)
 
 -- the non-empty strings that an address begins with, up to k bits
 abbrev pub first_strings : ℕ → ℕ → List ℕ
@@ -25,26 +26,17 @@ first_strings a zero = []
 first_strings a (suc k) = string a (suc k) ∷ first_strings a k
 
 -- those that a held prefix begins with
-abbrev pub beginnings : Option PrefixRow → List ℕ
+abbrev pub beginnings : Option Prefix → List ℕ
 beginnings None = []
-beginnings (Some r) = first_strings r.address r.length
+beginnings (Some v) = first_strings v.row.address v.row.length
 
-abbrev pub all_beginnings : List (Option PrefixRow) → List ℕ
+abbrev pub all_beginnings : List (Option Prefix) → List ℕ
 all_beginnings [] = []
 all_beginnings (o ∷ os) = beginnings o ++ all_beginnings os
 
--- a list without its repetitions
-abbrev pub has : ℕ → List ℕ → Bool
-has x [] = false
-has x (y ∷ ys) = x == y || has x ys
-
-abbrev pub different : List ℕ → List ℕ
-different [] = []
-different (x ∷ xs) = cond (has x xs) (different xs) (x ∷ different xs)
-
--- how many different strings held prefixes begin with
-abbrev pub row_count : List (Option PrefixRow) → ℕ
-row_count rows = length (different (all_beginnings rows))
+-- how many different non-empty bit strings held prefixes begin with
+abbrev pub string_count : List (Option Prefix) → ℕ
+string_count places = distinct_count nat_eq (all_beginnings places)
 
 -- x is one of them
 abbrev pub Among : ℕ → List ℕ → Type 0
@@ -57,5 +49,5 @@ Distinct [] = Unit {0}
 Distinct (x ∷ xs) = (Among x xs → ⊥) × Distinct xs
 
 -- some held prefix begins with v
-abbrev pub Begins : List (Option PrefixRow) → ℕ → Type 0
-Begins rows v = (l : ℕ) × Among v (beginnings (slice_index_or rows l None))
+abbrev pub Begins : List (Option Prefix) → ℕ → Type 0
+Begins places v = (l : ℕ) × Among v (beginnings (slice_index_or places l None))

@@ -1,159 +1,133 @@
 -- What the tables of a trie mean. Which bit string a node stands for is its key, and 0 says that the node is free; keys are not kept in memory.
-use Rattle.std.specs.Prelude.{◌≡◌, ℕ, ◌+◌, ◌-◌, ◌*◌, ◌/◌, ◌^◌, ◌<◌, ◌≤◌, Bool, true, false, cond, ◌&&◌, ◌⊎◌, List, length, Some, None, Option, ◌==◌, ◌≢◌, slice_index, slice_index_or, slice_set}
-use Rattle.fields.specs.declared.prefixes.PrefixRow.{PrefixRow}
-use Rattle.fields.specs.Prefixes.{other_bits, prefix_takes}
+use Rattle.std.specs.Prelude.{◌≡◌, ℕ, ◌+◌, ◌*◌, ◌/◌, ◌^◌, ◌<◌, ◌≤◌, Bool, false, ◌&&◌, ◌⊎◌, List, [], ◌∷◌, length, Some, None, Option, ◌==◌, ◌≢◌, slice_index, slice_index_or, slice_set, is_none}
+use Rattle.std.specs.List.{list_all}
+use Rattle.fields.specs.declared.prefixes.Prefix.{Prefix}
+use Rattle.parts.specs.Meaning.{place_count}
+use Rattle.parts.specs.Marks.{hit}
+use Rattle.fields.specs.Prefixes.{prefix_takes}
 use Rattle.trie.specs.declared.nodes.Node.{Node}
-use Rattle.trie.specs.declared.nodes.Tree.{Tree}
+use Rattle.trie.specs.declared.nodes.Tables.{Tables}
 use Rattle.trie.specs.Strings.{string, bit_after, codes, first_strings, Among, Distinct, Begins}
+
+-- as many non-empty strings as the prefixes of all places begin with at most, 32 each
+abbrev pub below_root : ℕ
+below_root = place_count * 32
+
+-- with the root
+abbrev pub node_count : ℕ
+node_count = below_root + 1
 
 -- nodes, their children and labels
 
 abbrev pub blank : Node
-blank = record { label = None; left = 0; right = 0 }
+blank = record { label = None; children = None ∷ None ∷ [] }
+
+abbrev pub no_node : Node
+no_node = record { label = None; children = [] }
 
 abbrev pub at : List Node → ℕ → Node
-at nodes i = slice_index_or nodes i blank
+at nodes i = slice_index_or nodes i no_node
 
-abbrev pub child : Node → ℕ → ℕ
-child node b = cond (b == 0) node.left node.right
+-- the child on a bit, if there is one
+abbrev pub child : Node → ℕ → Option ℕ
+child node b = slice_index_or node.children b None
 
-abbrev pub linked : Node → ℕ → ℕ → Node
-linked n b c = record { label = n.label; left = cond (b == 0) c n.left; right = cond (b == 0) n.right c }
+abbrev pub linked : Node → ℕ → Option ℕ → Node
+linked n b c = record { label = n.label; children = slice_set n.children b c }
 
 abbrev pub labelled : Node → Option ℕ → Node
-labelled n o = record { label = o; left = n.left; right = n.right }
+labelled n o = record { label = o; children = n.children }
 
 abbrev pub is : Option ℕ → ℕ → Bool
 is None l = false
 is (Some m) l = m == l
 
-abbrev pub unlabelled : Option ℕ → Bool
-unlabelled None = true
-unlabelled (Some m) = false
-
 -- neither label nor child
 abbrev pub bare : Node → Bool
-bare n = unlabelled n.label && (n.left == 0 && n.right == 0)
+bare n = is_none n.label && list_all is_none n.children
 
 -- no node in use lacks a child on the way to v
 abbrev pub Whole : (ℕ → ℕ) → List Node → ℕ → Type 0
-Whole key nodes v = (i b j : ℕ) → 0 < key i → b < 2 → child (at nodes i) b ≡ 0 → v / 2 ^ j ≢ 2 * key i + b
+Whole key nodes v = (i b j : ℕ) → 0 < key i → b < 2 → child (at nodes i) b ≡ None → v / 2 ^ j ≢ 2 * key i + b
 
 -- the nodes in use are a tree: a child has one bit more, one string has one node, and each is reached from the root
 pub record Shape (key : ℕ → ℕ) (nodes : List Node) : Type 0 where
-  pub size : length nodes ≡ 3073
-  pub bound : (i : ℕ) → 0 < key i → i < 3073
+  pub size : length nodes ≡ node_count
+  pub both : (i : ℕ) → 0 < key i → length (at nodes i).children ≡ 2
+  pub bound : (i : ℕ) → 0 < key i → i < node_count
   pub root : key 0 ≡ 1
-  pub inside : (i b : ℕ) → b < 2 → 0 < key i → 0 < child (at nodes i) b → 0 < key (child (at nodes i) b)
-  pub next : (i b : ℕ) → b < 2 → 0 < key i → 0 < child (at nodes i) b → key (child (at nodes i) b) ≡ 2 * key i + b
+  pub next : (i b c : ℕ) → b < 2 → 0 < key i → child (at nodes i) b ≡ Some c → key c ≡ 2 * key i + b
   pub single : (i j : ℕ) → 0 < key i → 0 < key j → key i ≡ key j → i ≡ j
   pub whole : (j : ℕ) → 0 < key j → Whole key nodes (key j)
 
 -- the stack has free nodes, each once
-pub record Stack (key : ℕ → ℕ) (free : List ℕ) (spare : ℕ) : Type 0 where
-  pub deep : length free ≡ 3072
-  pub room : spare ≤ 3072
-  pub low : (s : ℕ) → s < spare → slice_index free s < 3073
-  pub some : (s : ℕ) → s < spare → 0 < slice_index free s
-  pub idle : (s : ℕ) → s < spare → key (slice_index free s) ≡ 0
-  pub apart : (s t : ℕ) → s < spare → t < spare → slice_index free s ≡ slice_index free t → s ≡ t
+pub record Stack (key : ℕ → ℕ) (free : List ℕ) : Type 0 where
+  pub low : (n : ℕ) → Among n free → n < node_count
+  pub some : (n : ℕ) → Among n free → 0 < n
+  pub idle : (n : ℕ) → Among n free → key n ≡ 0
+  pub once : Distinct free
 
 -- a node has the label of the place whose prefix it is, and each held prefix has its nodes; c is the bits at each place
 pub record Named (key : ℕ → ℕ) (nodes : List Node) (c : ℕ → ℕ) : Type 0 where
   pub reached : (l : ℕ) → Whole key nodes (c l)
   pub names : (i l : ℕ) → 0 < key i → is (at nodes i).label l ≡ (c l == key i)
 
--- ks are the strings of the nodes below the root; with the free ones there are 3,072
+-- ks are the strings of the nodes below the root; with the free ones there are as many as can be needed
 pub record Listed (key : ℕ → ℕ) (ks : List ℕ) (spare : ℕ) : Type 0 where
   pub once : Distinct ks
-  pub many : length ks + spare ≡ 3072
+  pub many : length ks + spare ≡ below_root
   pub each : (i : ℕ) → 0 < i → 0 < key i → Among (key i) ks
   pub only : (v : ℕ) → Among v ks → (i : ℕ) × (0 < i) × (0 < key i) × (key i ≡ v)
 
--- what every row of a prefix is like
-pub record Lawful (r : PrefixRow) : Type 0 where
-  pub short : r.length ≤ 32
-  pub fits : r.address < 2 ^ 32
-  pub clean : other_bits r.length r.address ≡ 0
-
-abbrev pub LawfulAt : Option PrefixRow → Type 0
-LawfulAt None = Unit {0}
-LawfulAt (Some r) = Lawful r
-
-pub record Frame (t : Tree) (key : ℕ → ℕ) (ks : List ℕ) : Type 0 where
+pub record Frame (t : Tables) (key : ℕ → ℕ) (ks : List ℕ) : Type 0 where
   pub shape : Shape key t.nodes
-  pub stack : Stack key t.free t.spare
-  pub named : Named key t.nodes (codes t.rows)
-  pub listed : Listed key ks t.spare
-  pub size : length t.rows ≡ 96
-  pub lawful : (l : ℕ) → LawfulAt (slice_index_or t.rows l None)
-
--- one step of a change to the tables: a node is written, a place is written, the stack of free nodes gives one up or gets one
-abbrev pub with_node : Tree → ℕ → Node → Tree
-with_node t i n = record { rows = t.rows; nodes = slice_set t.nodes i n; free = t.free; spare = t.spare }
-
-abbrev pub with_row : Tree → ℕ → Option PrefixRow → Tree
-with_row t p o = record { rows = slice_set t.rows p o; nodes = t.nodes; free = t.free; spare = t.spare }
-
-abbrev pub popped : Tree → Tree
-popped t = record { rows = t.rows; nodes = t.nodes; free = t.free; spare = t.spare - 1 }
-
-abbrev pub pushed : Tree → ℕ → Tree
-pushed t n = record { rows = t.rows; nodes = t.nodes; free = slice_set t.free t.spare n; spare = t.spare + 1 }
+  pub stack : Stack key t.free.items
+  pub named : Named key t.nodes (codes t.places)
+  pub listed : Listed key ks (length t.free.items)
+  pub size : length t.places ≡ place_count
 
 -- each node below the root is needed: some held prefix begins with its string
-abbrev pub Needed : List (Option PrefixRow) → (ℕ → ℕ) → Type 0
-Needed rows key = (i : ℕ) → 0 < i → 0 < key i → Begins rows (key i)
+abbrev pub Needed : List (Option Prefix) → (ℕ → ℕ) → Type 0
+Needed places key = (i : ℕ) → 0 < i → 0 < key i → Begins places (key i)
 
 -- the same but for the nodes of one prefix's first k bits
-abbrev pub Nearly : List (Option PrefixRow) → ℕ → ℕ → (ℕ → ℕ) → Type 0
-Nearly rows a k key = (i : ℕ) → 0 < i → 0 < key i → Begins rows (key i) ⊎ Among (key i) (first_strings a k)
+abbrev pub Nearly : List (Option Prefix) → ℕ → ℕ → (ℕ → ℕ) → Type 0
+Nearly places a k key = (i : ℕ) → 0 < i → 0 < key i → Begins places (key i) ⊎ Among (key i) (first_strings a k)
 
--- the trie of the prefixes that the rows are
-pub record Good (t : Tree) : Type 0 where
+-- the trie of the prefixes at the places
+pub record Good (t : Tables) : Type 0 where
   pub key : ℕ → ℕ
   pub ks : List ℕ
   pub frame : Frame t key ks
-  pub needed : Needed t.rows key
+  pub needed : Needed t.places key
 
--- a walk towards a prefix ended at a node
-pub record Ends (t : Tree) (row : PrefixRow) (node depth : ℕ) : Type 0 where
+-- a walk towards the first n bits of an address passed these nodes, the root first, and went on as long as there was a next one
+pub record Walked (t : Tables) (a n : ℕ) (path : List ℕ) : Type 0 where
   pub good : Good t
-  pub lawful : Lawful row
-  pub within : depth ≤ row.length
-  pub for : good.key node ≡ string row.address depth
-  pub stops : depth < row.length → child (at t.nodes node) (bit_after row.address depth) ≡ 0
-
--- and came along the path
-pub record Walked (t : Tree) (row : PrefixRow) (path : List ℕ) (node depth : ℕ) : Type 0 where
-  pub ends : Ends t row node depth
-  pub passed : (j : ℕ) → j < depth → ends.good.key (slice_index path j) ≡ string row.address j
+  pub some : 0 < length path
+  pub within : length path ≤ n + 1
+  pub passed : (j : ℕ) → j < length path → good.key (slice_index path j) ≡ string a j
+  pub stops : (d : ℕ) → length path ≡ d + 1 → d < n → child (at t.nodes (slice_index path d)) (bit_after a d) ≡ None
 
 -- nodes are being taken for a prefix, and the last is at depth
-pub record Growing (t : Tree) (row : PrefixRow) (node depth : ℕ) : Type 0 where
+pub record Growing (t : Tables) (value : Prefix) (node depth : ℕ) : Type 0 where
   pub key : ℕ → ℕ
   pub ks : List ℕ
   pub frame : Frame t key ks
-  pub lawful : Lawful row
-  pub nearly : Nearly t.rows row.address row.length key
-  pub for : key node ≡ string row.address depth
-  pub stops : depth < row.length → child (at t.nodes node) (bit_after row.address depth) ≡ 0
-  pub vacant : (p : ℕ) × (p < 96) × (slice_index_or t.rows p None ≡ None)
+  pub nearly : Nearly t.places value.row.address value.row.length key
+  pub for : key node ≡ string value.row.address depth
+  pub stops : depth < value.row.length → child (at t.nodes node) (bit_after value.row.address depth) ≡ None
+  pub vacant : (p : ℕ) × (p < place_count) × (slice_index_or t.places p None ≡ None)
 
 -- nodes of a prefix that is no longer held are being freed, down to depth
-pub record Trimming (t : Tree) (row : PrefixRow) (path : List ℕ) (depth : ℕ) : Type 0 where
+pub record Trimming (t : Tables) (value : Prefix) (path : List ℕ) (depth : ℕ) : Type 0 where
   pub key : ℕ → ℕ
   pub ks : List ℕ
   pub frame : Frame t key ks
-  pub lawful : Lawful row
-  pub nearly : Nearly t.rows row.address depth key
-  pub last : (n : ℕ) × (key n ≡ string row.address depth)
-  pub passed : (j : ℕ) → j < depth → key (slice_index path j) ≡ string row.address j
+  pub nearly : Nearly t.places value.row.address depth key
+  pub long : depth < length path
+  pub passed : (j : ℕ) → j ≤ depth → key (slice_index path j) ≡ string value.row.address j
 
 -- whether a place holds a prefix that takes the address
-abbrev pub covers : ℕ → Option PrefixRow → Bool
-covers a None = false
-covers a (Some r) = prefix_takes r a
-
-abbrev pub hits : List (Option PrefixRow) → ℕ → ℕ → Bool
-hits rows a l = covers a (slice_index_or rows l None)
+abbrev pub hits : List (Option Prefix) → ℕ → ℕ → Bool
+hits places a l = hit (λ v. prefix_takes v.row a) (slice_index_or places l None)

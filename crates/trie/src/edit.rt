@@ -1,200 +1,103 @@
 // Changes to the tables: nodes that are taken for a prefix, and freed when no prefix needs them.
-ghost use Rattle.std.specs.Prelude.{◌≡◌, ℕ, ◌+◌, ◌-◌, ◌<◌, ◌≤◌, true, false, replicate, Some, None, ◌≢◌, slice_index, slice_index_or, slice_set};
+ghost use Rattle.std.specs.Prelude.{◌≡◌, ℕ, ◌+◌, ◌<◌, ◌≤◌, true, false, Some, None, ◌≢◌, slice_index_or, slice_set};
 ghost use Rattle.trie.specs.Strings.{code, codes};
-ghost use Rattle.trie.specs.Trees.{blank, at, linked, labelled, bare, with_node, popped, pushed, Good, Growing, Trimming};
+ghost use Rattle.trie.specs.Trees.{Good, Walked, Growing, Trimming};
 
-use crate::nodes::{Node, Reached, Tree};
-use crate::walk::{bit_after, child_at};
-use fields::prefixes::PrefixRow;
+use crate::nodes::{Node, Tables};
+use crate::tree::Tree;
+use crate::walk::bit_after;
+use fields::kinds::Kind;
+use fields::prefixes::Prefix;
+use parts::marks::PLACES;
 
-fn with_child(node: Node, bit: u32, child: u16) -> Node
-    ensures { result ≡ linked node bit child }
-{
-    let mut made = node;
-    if bit == 0 {
-        made.left = child;
-    } else {
-        made.right = child;
-    }
-    made
-}
-
-// Whether a node has neither label nor child.
-fn is_bare(node: Node) -> bool
-    ensures { result ≡ bare node }
-{
-    if let Some(_) = node.label {
-        return false;
-    }
-    node.left == 0 && node.right == 0
-}
-
-fn all_free() -> [u16; 3072]
-    ensures { (t : ℕ) → t < 3072 → slice_index result t ≡ t + 1 }
-{
-    let mut free = [0; 3072];
-    for s in 0..3072 {
-        free[s] = s as u16 + 1;
-    }
-    free
-}
-
-impl Tree {
-    // Only a root.
-    pub fn bare() -> Tree
-        ensures sound { ∥ Good result ∥₁ }
-        ensures rows { result.rows ≡ replicate 96 None }
-    {
-        let root = Node {
-            label: None,
-            left: 0,
-            right: 0,
-        };
-        let free = all_free();
-        Tree {
-            rows: [None; 96],
-            nodes: [root; 3073],
-            free,
-            spare: 3072,
-        }
-    }
-
-    // Takes the free node on top of the stack.
-    fn claim(&mut self) -> u16
-        requires { (0 < self.old.spare) × (self.old.spare ≤ 3072) }
-        ensures node { result ≡ slice_index self.old.free (self.old.spare - 1) }
-        ensures left { self.new ≡ popped self.old }
-    {
-        let top = self.spare - 1;
-        self.spare = top;
-        self.free[top]
-    }
-
-    // Puts a node on the stack of free ones.
-    fn release(&mut self, node: u16)
-        requires { self.old.spare < 3072 }
-        ensures { self.new ≡ pushed self.old node }
-    {
-        let top = self.spare;
-        self.free[top] = node;
-        self.spare = top + 1;
-    }
-
-    // Wipes out what a free node had.
-    fn wipe(&mut self, node: u16)
-        requires { node < 3073 }
-        ensures { self.new ≡ with_node self.old node blank }
-    {
-        self.nodes[node as usize] = Node {
-            label: None,
-            left: 0,
-            right: 0,
-        };
-    }
-
-    // Gives a node a child; 0 takes the child away.
-    fn link(&mut self, parent: usize, bit: u32, child: u16)
-        requires { parent < 3073 }
-        ensures { self.new ≡ with_node self.old parent (linked (at self.old.nodes parent) bit child) }
-    {
-        let node = self.nodes[parent];
-        self.nodes[parent] = with_child(node, bit, child);
-    }
-
-    fn relabel(&mut self, node: usize, label: Option<u8>)
-        requires { node < 3073 }
-        ensures { self.new ≡ with_node self.old node (labelled (at self.old.nodes node) label) }
-    {
-        let mut changed = self.nodes[node];
-        changed.label = label;
-        self.nodes[node] = changed;
-    }
-
+impl Tables {
     // Takes a free node for the next bit of a prefix.
-    fn extend(&mut self, parent: usize, row: PrefixRow, depth: u8) -> usize
-        requires within { depth < row.length }
-        requires growing { ∥ Growing self.old row parent depth ∥₁ }
-        ensures rows { self.new.rows ≡ self.old.rows }
-        ensures growing { ∥ Growing self.new row result (depth + 1) ∥₁ }
+    fn extend(&mut self, parent: u16, value: Prefix, depth: u8) -> u16
+        requires within { depth < value.row.length }
+        requires growing { ∥ Growing self.old value parent depth ∥₁ }
+        ensures places { self.new.places ≡ self.old.places }
+        ensures growing { ∥ Growing self.new value result (depth + 1) ∥₁ }
     {
-        let node = self.claim();
-        self.wipe(node);
-        self.link(parent, bit_after(row.address, depth), node);
-        node as usize
-    }
-
-    // Takes free nodes for all bits of a prefix that have none yet, and answers the last node.
-    fn grow(&mut self, row: PrefixRow, end: Reached) -> usize
-        requires within { end.depth ≤ row.length }
-        requires growing { ∥ Growing self.old row end.node end.depth ∥₁ }
-        ensures rows { self.new.rows ≡ self.old.rows }
-        ensures grown { ∥ Growing self.new row result row.length ∥₁ }
-    {
-        let mut node = end.node;
-        for depth in end.depth..row.length {
-            node = self.extend(node, row, depth);
-        }
+        let bit = bit_after(value.row().address, depth);
+        let node = self.free.pop().unwrap();
+        self.nodes[node as usize] = Node::BLANK;
+        self.nodes[parent as usize].children[bit] = Some(node);
         node
     }
 
-    // Puts a prefix that no place holds at an empty place.
-    pub fn put(&mut self, place: u8, row: PrefixRow, end: Reached)
-        requires within { (place < 96) × (end.depth ≤ row.length) }
-        requires growing { ∥ Growing self.old row end.node end.depth ∥₁ }
-        requires vacant { slice_index_or self.old.rows place None ≡ None }
-        requires new { (l : ℕ) → codes self.old.rows l ≢ code (Some row) }
-        ensures sound { ∥ Good self.new ∥₁ }
-        ensures rows { self.new.rows ≡ slice_set self.old.rows place (Some row) }
+    // Takes free nodes for all bits of a prefix after the first `depth`, whose node there is, and answers the last node.
+    fn grow(&mut self, node: u16, value: Prefix, depth: u8) -> u16
+        requires within { depth ≤ value.row.length }
+        requires growing { ∥ Growing self.old value node depth ∥₁ }
+        ensures places { self.new.places ≡ self.old.places }
+        ensures grown { ∥ Growing self.new value result value.row.length ∥₁ }
     {
-        let last = self.grow(row, end);
-        self.relabel(last, Some(place));
-        self.rows[place as usize] = Some(row);
+        let mut last = node;
+        for depth in depth..value.row().length {
+            last = self.extend(last, value, depth);
+        }
+        last
     }
 
     // Frees the last node of a prefix's first `depth + 1` bits if it has neither label nor child, and says whether it did.
-    fn snip(&mut self, path: &[u16; 32], row: PrefixRow, depth: u8) -> bool
-        requires within { depth < row.length }
-        requires trimming { ∥ Trimming self.old row path.now (depth + 1) ∥₁ }
-        ensures rows { self.new.rows ≡ self.old.rows }
-        ensures freed { result ≡ true → ∥ Trimming self.new row path.now depth ∥₁ }
+    fn snip(&mut self, path: &[u16], value: Prefix, depth: u8) -> bool
+        requires within { depth < value.row.length }
+        requires trimming { ∥ Trimming self.old value path.now (depth + 1) ∥₁ }
+        ensures places { self.new.places ≡ self.old.places }
+        ensures freed { result ≡ true → ∥ Trimming self.new value path.now depth ∥₁ }
         ensures kept { result ≡ false → ∥ Good self.new ∥₁ }
     {
         let parent = path[depth as usize] as usize;
-        let bit = bit_after(row.address, depth);
-        let last = child_at(self.nodes[parent], bit);
-        if !is_bare(self.nodes[last]) {
+        let last = path[depth as usize + 1];
+        if !self.nodes[last as usize].is_bare() {
             return false;
         }
-        self.link(parent, bit, 0);
-        self.release(last as u16);
+        self.nodes[parent].children[bit_after(value.row().address, depth)] = None;
+        self.free.push(last);
         true
     }
 
     // Frees the nodes of a prefix that nothing needs, from the last up.
-    fn trim(&mut self, path: &[u16; 32], row: PrefixRow)
-        requires { ∥ Trimming self.old row path.now row.length ∥₁ }
+    fn trim(&mut self, path: &[u16], value: Prefix)
+        requires { ∥ Trimming self.old value path.now value.row.length ∥₁ }
         ensures sound { ∥ Good self.new ∥₁ }
-        ensures rows { self.new.rows ≡ self.old.rows }
+        ensures places { self.new.places ≡ self.old.places }
     {
-        for depth in (0..row.length).rev() {
-            if !self.snip(path, row, depth) {
+        for depth in (0..value.row().length).rev() {
+            if !self.snip(path, value, depth) {
                 return;
             }
         }
     }
+}
+
+impl Tree {
+    // Puts a prefix that no place holds at an empty place, by the walk towards it.
+    pub fn put(&mut self, place: u8, value: Prefix, path: &[u16])
+        requires within { place < PLACES }
+        requires walked { ∥ Walked self.old.tables value.row.address value.row.length path.now ∥₁ }
+        requires vacant { slice_index_or self.old.tables.places place None ≡ None }
+        requires new { (l : ℕ) → codes self.old.tables.places l ≢ code (Some value) }
+        ensures { self.new.tables.places ≡ slice_set self.old.tables.places place (Some value) }
+    {
+        let depth = path.len() - 1;
+        let last = self.tables.grow(path[depth], value, depth as u8);
+        self.tables.nodes[last as usize].label = Some(place);
+        self.tables.places[place as usize] = Some(value);
+    }
 
     // Empties the place that holds a prefix.
-    pub fn remove(&mut self, place: u8, row: PrefixRow)
-        requires sound { ∥ Good self.old ∥₁ }
-        requires within { place < 96 }
-        requires held { slice_index_or self.old.rows place None ≡ Some row }
-        ensures sound { ∥ Good self.new ∥₁ }
-        ensures rows { self.new.rows ≡ slice_set self.old.rows place None }
+    pub fn remove(&mut self, place: u8, value: Prefix)
+        requires within { place < PLACES }
+        requires held { slice_index_or self.old.tables.places place None ≡ Some value }
+        ensures { self.new.tables.places ≡ slice_set self.old.tables.places place None }
     {
-        let mut path = [0; 32];
-        let end = self.seek(row, &mut path);
-        self.relabel(end.node, None);
-        self.rows[place as usize] = None;
-        self.trim(&path, row);
+        let row = value.row();
+        let path = self.walk(row.address, row.length);
+        let path = path.as_slice();
+        let last = path[row.length as usize];
+        self.tables.nodes[last as usize].label = None;
+        self.tables.places[place as usize] = None;
+        self.tables.trim(path, value);
     }
 }

@@ -2,5 +2,6 @@
 
 mod edit;
 mod nodes;
+mod tree;
 pub mod tries;
 mod walk;

@@ -1,26 +1,47 @@
 // The tables of a binary trie.
-use fields::prefixes::PrefixRow;
+ghost use Rattle.std.specs.Prelude.{◌≡◌};
+ghost use Rattle.trie.specs.Trees.{bare};
 
-// A node stands for a bit string. A child 0 is none: node 0 is the root, and nobody's child.
+use arrayvec::ArrayVec;
+use fields::prefixes::Prefix;
+use parts::marks::PLACES;
+
+// How many bits an address has.
+pub const BITS: usize = 32;
+
+// The most nodes on a way down from the root, which is one of them.
+pub const STEPS: usize = BITS + 1;
+
+// As many non-empty bit strings as the prefixes of all places begin with at most.
+pub const BELOW_ROOT: usize = PLACES * BITS;
+
+pub const NODES: usize = BELOW_ROOT + 1;
+
+// A node stands for a bit string and is named by its index in a table, since nothing is allocated. Its children stand for that string and one bit more, and the bit is their index.
 #[derive(Clone, Copy)]
 pub struct Node {
     pub label: Option<u8>,
-    pub left: u16,
-    pub right: u16,
+    pub children: [Option<u16>; 2],
 }
 
-// What the places hold, the root and the nodes below it, and a stack of those that are free, `spare` high.
+impl Node {
+    pub const BLANK: Node = Node {
+        label: None,
+        children: [None; 2],
+    };
+
+    // Whether it has neither label nor child.
+    pub fn is_bare(&self) -> bool
+        ensures { result ≡ bare self.now }
+    {
+        self.label.is_none() && self.children.iter().all(|child| child.is_none())
+    }
+}
+
+// What the places hold, the root, which is node 0, and the nodes below it, and those that are free.
 #[derive(Drop)]
-pub struct Tree {
-    pub rows: [Option<PrefixRow>; 96],
-    pub nodes: [Node; 3073],
-    pub free: [u16; 3072],
-    pub spare: usize,
-}
-
-// Where a walk from the root ends: a node, and how many bits it stands for.
-#[derive(Clone, Copy)]
-pub struct Reached {
-    pub node: usize,
-    pub depth: u8,
+pub struct Tables {
+    pub places: [Option<Prefix>; PLACES],
+    pub nodes: [Node; NODES],
+    pub free: ArrayVec<u16, BELOW_ROOT>,
 }

@@ -3,30 +3,30 @@ ghost use Rattle.std.specs.Prelude.{◌≡◌, ℕ, ◌^◌, ◌<◌, ◌≤◌,
 ghost use Rattle.std.proofs.Common.{subst};
 ghost use Rattle.parts.specs.Meaning.{Meaning, nothing};
 ghost use Rattle.fields.specs.declared.prefixes.Prefix.{Prefix};
-ghost use Rattle.trie.specs.Trees.{Good};
-ghost use Rattle.trie.specs.Shown.{Shown, Agrees, string_count};
+ghost use Rattle.trie.specs.Strings.{string_count};
+ghost use Rattle.trie.specs.Shown.{Shows, Agrees};
 ghost use Rattle.trie.specs.Meant.{size_from, single_from};
 
-use crate::nodes::Tree;
+use crate::tree::Tree;
 use engines::engine::Engine;
 use fields::faults::Fault;
 use fields::keys::Key;
 use fields::kinds::Kind;
 use fields::prefixes::Prefix;
-use parts::marks::write_marked;
+use parts::checks::{check_clear, check_set};
+use parts::marks::{PLACES, write_marked};
 use parts::told::Told;
 
-// Just the nodes that some held prefix needs are in use.
+// The held prefixes, and how often the engine was asked since it was emptied.
 #[derive(Drop)]
 pub struct Trie {
     tree: Tree,
     asked: u32,
-    ghost sound: { ∥ Good tree ∥₁ },
 }
 
 impl Trie {
     pub fn new() -> Trie
-        ensures held { Shown result.tree.rows result.asked nothing }
+        ensures held { Shows result nothing }
         ensures asked { Agrees result.asked [] }
     {
         Trie {
@@ -37,33 +37,32 @@ impl Trie {
 
     // How many nodes below the root are in use: as many as there are different non-empty bit strings that some held prefix begins with.
     pub fn nodes_in_use(&self) -> usize
-        ensures exactly { (m : Meaning Prefix) → Shown self.now.tree.rows self.now.asked m → result ≡ string_count m.places }
+        ensures exactly { (m : Meaning Prefix) → Shows self.now m → result ≡ string_count m.places }
         ensures few { result ≤ 3072 }
-        ensures none { (m : Meaning Prefix) → Shown self.now.tree.rows self.now.asked m → ((l : ℕ) → slice_index_or m.places l None ≡ None) → result ≡ 0 }
+        ensures none { (m : Meaning Prefix) → Shows self.now m → ((l : ℕ) → slice_index_or m.places l None ≡ None) → result ≡ 0 }
     {
         self.tree.in_use()
     }
 
     // How often the engine was asked since it was emptied, modulo 2^32.
     pub fn asked_number(&self) -> u32
-        ensures { (m : Meaning Prefix) → Shown self.now.tree.rows self.now.asked m → result ≡ m.asked }
+        ensures { (m : Meaning Prefix) → Shows self.now m → result ≡ m.asked }
     {
-        let Trie { asked, .. } = self;
-        *asked
+        self.asked
     }
 }
 
 impl Told<Prefix> for Trie {
     type Asked = u32;
 
-    ghost shows = { λ s m. Shown s.tree.rows s.asked m };
+    ghost shows = { Shows };
 
     ghost agrees = { λ s l. Agrees s.asked l };
 
     ghost proper = { λ s m h.
         record {
-          size = size_from s.tree m.places s.sound h.held;
-          single = single_from s.tree m.places s.sound h.held;
+          size = size_from s.tree.tables m.places s.tree.sound h.held;
+          single = single_from s.tree.tables m.places s.tree.sound h.held;
           counted = subst (λ (x : ℕ). x < 2 ^ 32) h.counted h.small;
         } };
 
@@ -72,40 +71,29 @@ impl Told<Prefix> for Trie {
     }
 
     fn set(&mut self, place: u8, value: Prefix) -> Result<(), Fault> {
-        if place > 95 {
-            return Err(Fault::Label(place));
-        }
-        let slot = self.tree.rows[place as usize];
-        if let Some(_) = slot {
-            return Err(Fault::Full(place));
-        }
         let row = value.row();
-        let mut path = [0; 32];
-        let end = self.tree.seek(row, &mut path);
-        if let Some(label) = self.tree.holder(row, end) {
-            return Err(Fault::Elsewhere(label));
-        }
-        self.tree.put(place, row, end);
+        let path = self.tree.walk(row.address, row.length);
+        let path = path.as_slice();
+        check_set(
+            place,
+            &[],
+            self.tree.held(place),
+            self.tree.holder(value, path),
+        )?;
+        self.tree.put(place, value, path);
         Ok(())
     }
 
     fn clear(&mut self, place: u8) -> Result<Prefix, Fault> {
-        if place > 95 {
-            return Err(Fault::Label(place));
-        }
-        let slot = self.tree.rows[place as usize];
-        let Some(row) = slot else {
-            return Err(Fault::Vacant(place));
-        };
-        let value = Prefix::form(row)?;
-        self.tree.remove(place, row);
+        let value = check_clear(place, self.tree.held(place))?;
+        self.tree.remove(place, value);
         Ok(value)
     }
 }
 
 impl Engine<Prefix> for Trie {
     fn matches(&mut self, number: u32, list: &mut [u8]) -> Result<usize, Fault> {
-        let mut marks = [false; 96];
+        let mut marks = [false; PLACES];
         self.tree.mark_path(number, &mut marks);
         let count = write_marked(&marks, list)?;
         self.asked = self.asked.wrapping_add(1);

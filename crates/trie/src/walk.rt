@@ -1,86 +1,60 @@
 // Walks from the root towards an address, one bit a step.
-ghost use Rattle.std.specs.Prelude.{◌≡◌, ℕ, ◌-◌, ◌<◌, ◌≤◌, false, ◌||◌, Some, ◌==◌, slice_index_or};
+ghost use Rattle.std.specs.Prelude.{◌≡◌, ℕ, ◌<◌, ◌≤◌, false, ◌||◌, Some, ◌==◌, slice_index_or};
 ghost use Rattle.trie.specs.Strings.{bit_after, code, codes};
-ghost use Rattle.trie.specs.Trees.{child, is, hits, Lawful, Good, Walked, Ends};
+ghost use Rattle.trie.specs.Trees.{is, hits, Walked};
 
-use crate::nodes::{Node, Reached, Tree};
-use fields::prefixes::PrefixRow;
-use parts::marks::mark;
+use crate::nodes::{BITS, STEPS};
+use crate::tree::Tree;
+use arrayvec::ArrayVec;
+use fields::kinds::Kind;
+use fields::prefixes::Prefix;
+use parts::marks::{PLACES, mark};
 
 // The bit of an address that follows its first `depth`.
-pub fn bit_after(address: u32, depth: u8) -> u32
-    requires { depth < 32 }
-    ensures { result ≡ bit_after address depth }
+pub fn bit_after(address: u32, depth: u8) -> usize
+    requires { depth < BITS }
+    ensures bit { result ≡ bit_after address depth }
+    ensures below { result < 2 }
 {
-    (address >> (31 - depth)) % 2
-}
-
-pub fn child_at(node: Node, bit: u32) -> usize
-    ensures { result ≡ child node bit }
-{
-    if bit == 0 {
-        node.left as usize
-    } else {
-        node.right as usize
-    }
+    ((address >> (31 - depth)) % 2) as usize
 }
 
 impl Tree {
-    // How many nodes below the root are not free.
-    pub fn in_use(&self) -> usize
-        requires { self.now.spare ≤ 3072 }
-        ensures { result ≡ 3072 - self.now.spare }
+    // The nodes on the way towards the first `length` bits of an address, as far as there are nodes, the root first.
+    pub fn walk(&self, address: u32, length: u8) -> ArrayVec<u16, STEPS>
+        requires { length ≤ BITS }
+        ensures { ∥ Walked self.now.tables address length result.items ∥₁ }
     {
-        3072 - self.spare
-    }
-
-    // Goes down towards a prefix as far as there are nodes, and notes those that it leaves.
-    pub fn seek(&self, row: PrefixRow, path: &mut [u16; 32]) -> Reached
-        requires sound { ∥ Good self.now ∥₁ }
-        requires lawful { Lawful row }
-        ensures { ∥ Walked self.now row path.new result.node result.depth ∥₁ }
-    {
+        let mut path = ArrayVec::new();
         let mut node = 0;
-        for depth in 0..row.length {
-            let next = child_at(self.nodes[node], bit_after(row.address, depth));
-            if next == 0 {
-                return Reached { node, depth };
-            }
-            path[depth as usize] = node as u16;
-            node = next;
+        path.push(node);
+        for depth in 0..length {
+            let bit = bit_after(address, depth);
+            let Some(child) = self.tables.nodes[node as usize].children[bit] else {
+                return path;
+            };
+            node = child;
+            path.push(node);
         }
-        Reached {
-            node,
-            depth: row.length,
-        }
+        path
     }
 
-    // The label of the place that holds a prefix, by where the walk towards it ended.
-    pub fn holder(&self, row: PrefixRow, end: Reached) -> Option<u8>
-        requires walked { ∥ Ends self.now row end.node end.depth ∥₁ }
-        ensures { (l : ℕ) → is result l ≡ (codes self.now.rows l == code (Some row)) }
+    // The label of the place that holds a prefix, by the walk towards it.
+    pub fn holder(&self, value: Prefix, path: &[u16]) -> Option<u8>
+        requires { ∥ Walked self.now.tables value.row.address value.row.length path.now ∥₁ }
+        ensures { (l : ℕ) → is result l ≡ (codes self.now.tables.places l == code (Some value)) }
     {
-        if end.depth < row.length {
-            return None;
-        }
-        self.nodes[end.node].label
+        let node = *path.get(value.row().length as usize)?;
+        self.tables.nodes[node as usize].label
     }
 
     // Marks the labels of all prefixes that the address begins with.
-    pub fn mark_path(&self, address: u32, marks: &mut [bool; 96])
-        requires { ∥ Good self.now ∥₁ }
-        ensures { (l : ℕ) → l < 96 → slice_index_or marks.new l false ≡ (slice_index_or marks.old l false || hits self.now.rows address l) }
+    pub fn mark_path(&self, address: u32, marks: &mut [bool; PLACES])
+        ensures { (l : ℕ) → l < PLACES → slice_index_or marks.new l false ≡ (slice_index_or marks.old l false || hits self.now.tables.places address l) }
     {
-        let mut node = 0;
-        for depth in 0..32 {
-            let here = self.nodes[node];
-            mark(marks, here.label);
-            let next = child_at(here, bit_after(address, depth));
-            if next == 0 {
-                return;
-            }
-            node = next;
+        let path = self.walk(address, BITS as u8);
+        for node in path.as_slice() {
+            mark(marks, self.tables.nodes[*node as usize].label);
         }
-        mark(marks, self.nodes[node].label);
     }
 }

@@ -5,6 +5,7 @@ use engines::engine::Engine;
 use fields::faults::Fault;
 use fields::kinds::Kind;
 use fields::prefixes::{Prefix, PrefixRow};
+use parts::marks::PLACES;
 use parts::told::Told;
 use std::io;
 use trie::tries::Trie;
@@ -70,7 +71,7 @@ fn refused(rt: &HostRuntime, trie: &mut Trie) -> io::Result<()> {
     told(rt, "no prefix", put(trie, 6, 1, 31))?;
     told(rt, "an empty place", take(trie, 6))?;
     told(rt, "no such place", take(trie, 255))?;
-    match trie.matches(7, &mut [0; 95]) {
+    match trie.matches(7, &mut [0; PLACES - 1]) {
         Ok(count) => println!(rt; "short list: {count} labels"),
         Err(fault) => told(rt, "short list", Err(fault)),
     }
@@ -86,29 +87,26 @@ fn take(trie: &mut Trie, place: u8) -> Result<(), Fault> {
 }
 
 fn fill(trie: &mut Trie) -> Result<(), Fault> {
-    let mut address: u32 = 0;
-    for place in 0..96 {
-        put(trie, place, address, 32)?;
-        address = address.wrapping_add(APART);
+    for place in 0..PLACES as u8 {
+        put(trie, place, APART.wrapping_mul(place as u32), 32)?;
     }
     Ok(())
 }
 
 fn clear_all(trie: &mut Trie) -> Result<(), Fault> {
-    for turn in 0..96u32 {
-        take(trie, (turn * 37 % 96) as u8)?;
+    for turn in 0..PLACES {
+        take(trie, (turn * 37 % PLACES) as u8)?;
     }
     Ok(())
 }
 
 // A prefix of each length at the place of that number.
 fn nest(trie: &mut Trie) -> Result<(), Fault> {
-    let mut mask = u32::MAX;
-    for cut in 0..32 {
-        put(trie, 32 - cut, ADDRESS & mask, 32 - cut)?;
-        mask <<= 1;
+    for length in (0..33).rev() {
+        let mask = u32::MAX.checked_shl(32 - length as u32).unwrap_or(0);
+        put(trie, length, ADDRESS & mask, length)?;
     }
-    put(trie, 0, 0, 0)
+    Ok(())
 }
 
 fn cleared(rt: &HostRuntime, trie: &mut Trie, place: u8) -> io::Result<()> {
@@ -119,16 +117,12 @@ fn cleared(rt: &HostRuntime, trie: &mut Trie, place: u8) -> io::Result<()> {
 fn told(rt: &HostRuntime, what: &str, answer: Result<(), Fault>) -> io::Result<()> {
     match answer {
         Ok(()) => println!(rt; "{what}: done"),
-        Err(fault) => {
-            let number = fault.number();
-            let detail = fault.detail();
-            println!(rt; "{what}: refused {number} {detail}")
-        }
+        Err(fault) => println!(rt; "{what}: refused {fault}"),
     }
 }
 
 fn found(rt: &HostRuntime, trie: &mut Trie, address: u32) -> io::Result<()> {
-    let mut list = [0; 96];
+    let mut list = [0; PLACES];
     match trie.matches(address, &mut list) {
         Ok(count) => {
             let labels = &list[..count];

@@ -10,6 +10,7 @@ mod tests {
     use fields::faults::Fault;
     use fields::kinds::Kind;
     use fields::prefixes::{Prefix, PrefixRow};
+    use parts::marks::PLACES;
     use std::alloc::Global;
     use std::process::Abort;
     use std::test::Fail;
@@ -19,21 +20,15 @@ mod tests {
         <Prefix as Kind>::form(PrefixRow { address, length })
     }
 
-    fn number_of(fault: Option<Fault>) -> usize {
-        match fault {
-            Some(fault) => fault.number() as usize,
-            None => 0,
-        }
-    }
-
     // How many labels a match found, or the number of a refusal.
     fn told(answer: Answer<Prefix>) -> usize {
-        match answer {
-            Answer::Emptied => 0,
-            Answer::Set(result) => number_of(result.err()),
-            Answer::Cleared(result) => number_of(result.err()),
-            Answer::Matched(result, _) => result.unwrap_or(0),
-        }
+        let refusal = match answer {
+            Answer::Emptied => None,
+            Answer::Set(result) => result.err(),
+            Answer::Cleared(result) => result.err(),
+            Answer::Matched(result, _) => return result.unwrap_or(0),
+        };
+        refusal.map_or(0, |fault| fault.number() as usize)
     }
 
     fn alike<T: Rows<PrefixRow> + Drop>(
@@ -59,13 +54,8 @@ mod tests {
         let mut scan = Scan::over(table);
         let mut trie = Trie::new();
         let both = run_both(heap, &mut scan, &mut trie, &calls)?;
-        for (i, answer) in both.first.iter().enumerate() {
-            assert!(rt; i < 11 && told(*answer) == wanted[i]);
-        }
-        for (i, answer) in both.second.iter().enumerate() {
-            assert!(rt; i < 11 && told(*answer) == wanted[i]);
-        }
-        assert!(rt; both.first.len() == 11 && both.second.len() == 11);
+        assert!(rt; both.first.iter().map(|answer| told(*answer)).eq(wanted));
+        assert!(rt; both.second.iter().map(|answer| told(*answer)).eq(wanted));
         Ok(())
     }
 
@@ -74,7 +64,7 @@ mod tests {
         let mut rows = [PrefixRow {
             address: 0,
             length: 0,
-        }; 96];
+        }; PLACES];
         alike(&rt, rt.alloc(), RowTable::form(&mut rows)?)
     }
 }

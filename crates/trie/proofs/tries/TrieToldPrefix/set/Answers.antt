@@ -1,76 +1,59 @@
-use Rattle.std.proofs.Common.{◌≡◌, ℕ, ◌<◌, false, ltb, List, set, Some, None, Option, sym, refl, ap, ◌∙◌, subst, arith}
-use mathlib.Core.Logic.{∥∥₁_elim, ∥∥₁_map}
-use native.Mathlib.Bridge.{le_prop}
-use Rattle.std.proofs.lemmas.Bool.{le-ltb}
+use Rattle.std.proofs.Common.{◌≡◌, ℕ, List, [], get_or, set, Some, None, Err, Option, sym, refl, ap, ◌∙◌, subst, arith, rules}
 use Rattle.fields.specs.declared.faults.Fault.{Fault}
-use Rattle.fields.specs.declared.faults.Fault.TheVariants.{Full, Elsewhere}
 use Rattle.fields.specs.declared.prefixes.Prefix.{Prefix}
-use Rattle.fields.specs.declared.prefixes.PrefixRow.{PrefixRow}
 use Rattle.fields.specs.Faults.{answer, unless}
 use Rattle.parts.specs.Meaning.{Meaning, set_fault, put}
-use Rattle.trie.specs.Shown.{rows_of, Shown}
-use Rattle.trie.proofs.Growth.{starts}
-use Rattle.trie.specs.Meant.{map_rows_set}
-use Rattle.trie.proofs.Placed.{equal, no_labels, fault_full, fault_elsewhere, fault_none, full_from, vacant_from, new_from, found_none, found_some}
+use Rattle.parts.specs.Checks.{set_refusal}
+use Rattle.trie.specs.Shown.{Shown}
+use Rattle.trie.proofs.Walks.{along_value}
+use Rattle.trie.proofs.Placed.{equal, no_labels, refused, settable, same_refusal, new_from}
 use Rattle.trie.proofs.tries.TrieToldPrefix.set.Goals as goal
 
-pub returns-in-Some : goal.returns-in-Some
-returns-in-Some c =
-    let t = c.args.self.now.tree in
-    let p = c.args.place in
-    let v = c.args.value in
-    let low : ltb 95 p ≡ false = le-ltb 95 p (omega arith) in
-    let fault : (m : Meaning Prefix) → Shown t.rows c.args.self.now.asked m → set_fault equal no_labels m.places p v ≡ Some (Full p) = λ m s. fault_full m.places p v low (full_from t.rows m.places p c.in-Some.field-0 s.held c.in-Some.is) in
-    record {
-      result = λ m s. sym (ap (λ (f : Option Fault). answer f tt) (fault m s));
-      held = λ m s. subst (λ (f : Option Fault). Shown t.rows c.args.self.now.asked (unless f m (put m p (Some v)))) (sym (fault m s)) s;
-      kept = λ _. refl;
-      asked = λ l h. h;
-    }
-
 pub holder-requires : goal.holder-requires
-holder-requires c = record { walked = ∥∥₁_map c.seek-end.ensures (λ w. w.ends) }
+holder-requires c = along_value c.args.self.now.tree.tables c.args.value c.row-row.result c.walk-path.result.items c.as_slice-path.result.now c.row-row.ensures c.as_slice-path.ensures.value c.walk-path.ensures
 
-pub returns-in-Some-holder : goal.returns-in-Some-holder
-returns-in-Some-holder c =
-    let t = c.args.self.now.tree in
+pub returns-in_err-check_set : goal.returns-in_err-check_set
+returns-in_err-check_set c =
+    let places = c.args.self.now.tree.tables.places in
     let p = c.args.place in
     let v = c.args.value in
-    let low : ltb 95 p ≡ false = le-ltb 95 p (omega arith) in
-    let k = c.in-Some-holder.label in
-    let fault : (m : Meaning Prefix) → Shown t.rows c.args.self.now.asked m → set_fault equal no_labels m.places p v ≡ Some (Elsewhere k) = λ m s. fault_elsewhere m.places p v low k (vacant_from t.rows m.places p s.held c.in_default.is) (found_some t.rows v c.row-row.result c.row-row.ensures c.holder.result c.holder.ensures m.places s.held k c.in-Some-holder.is) in
+    let found = c.holder.result in
+    let e = c.in_err-check_set.field-0.0 in
+    let is : c.from_residual.result ≡ Err e = search rules in
+    let checked : Err e ≡ answer (set_refusal p [] (get_or places p None) found) tt = sym c.in_err-check_set.was ∙ c.check_set.ensures ∙ ap (λ (o : Option Prefix). answer (set_refusal p [] o found) tt) c.held.ensures in
+    let fault : (m : Meaning Prefix) → Shown places c.args.self.now.asked m → set_fault equal no_labels m.places p v ≡ Some e = λ m s. ap (λ (xs : List (Option Prefix)). set_fault equal no_labels xs p v) (sym s.held) ∙ sym (same_refusal places v found c.holder.ensures p) ∙ refused (set_refusal p [] (get_or places p None) found) tt e checked in
     record {
-      result = λ m s. sym (ap (λ (f : Option Fault). answer f tt) (fault m s));
-      held = λ m s. subst (λ (f : Option Fault). Shown t.rows c.args.self.now.asked (unless f m (put m p (Some v)))) (sym (fault m s)) s;
+      result = λ m s. is ∙ sym (ap (λ (f : Option Fault). answer f tt) (fault m s));
+      held = λ m s. subst (λ (f : Option Fault). Shown places c.args.self.now.asked (unless f m (put m p (Some v)))) (sym (fault m s)) s;
       kept = λ _. refl;
       asked = λ l h. h;
     }
 
 pub put-requires : goal.put-requires
 put-requires c =
-    let lp : c.args.place < 96 = omega arith in
+    let places = c.args.self.now.tree.tables.places in
+    let p = c.args.place in
+    let found = c.holder.result in
+    let ok = settable p (get_or places p None) c.held.result found c.held.ensures (sym c.in_ok-check_set.was ∙ c.check_set.ensures) in
     record {
-      within = (lp, ∥∥₁_elim c.seek-end.ensures le_prop (λ w. w.ends.within));
-      growing = ∥∥₁_map c.seek-end.ensures (λ w. starts c.args.self.now.tree c.row-row.result c.seek-end.result.node c.seek-end.result.depth c.args.place w.ends lp c.in_default.is);
-      vacant = c.in_default.is;
-      new = new_from c.args.self.now.tree.rows c.args.value c.row-row.result c.row-row.ensures c.holder.result c.holder.ensures c.in_default-holder.is;
+      within = ok.0;
+      walked = along_value c.args.self.now.tree.tables c.args.value c.row-row.result c.walk-path.result.items c.as_slice-path.result.now c.row-row.ensures c.as_slice-path.ensures.value c.walk-path.ensures;
+      vacant = ok.1;
+      new = new_from places c.args.value found c.holder.ensures ok.2;
     }
 
 pub returns : goal.returns
 returns c =
-    let t = c.args.self.now.tree in
+    let places = c.args.self.now.tree.tables.places in
     let p = c.args.place in
     let v = c.args.value in
-    let low : ltb 95 p ≡ false = le-ltb 95 p (omega arith) in
-    let row = c.row-row.result in
-    let fault : (m : Meaning Prefix) → Shown t.rows c.args.self.now.asked m → set_fault equal no_labels m.places p v ≡ None = λ m s. fault_none m.places p v low (vacant_from t.rows m.places p s.held c.in_default.is) (found_none t.rows v row c.row-row.ensures c.holder.result c.holder.ensures m.places s.held c.in_default-holder.is) in
+    let found = c.holder.result in
+    let ok = settable p (get_or places p None) c.held.result found c.held.ensures (sym c.in_ok-check_set.was ∙ c.check_set.ensures) in
+    let fault : (m : Meaning Prefix) → Shown places c.args.self.now.asked m → set_fault equal no_labels m.places p v ≡ None = λ m s. ap (λ (xs : List (Option Prefix)). set_fault equal no_labels xs p v) (sym s.held) ∙ sym (same_refusal places v found c.holder.ensures p) ∙ ok.3 in
     record {
       result = λ m s. sym (ap (λ (f : Option Fault). answer f tt) (fault m s));
-      held = λ m s. subst (λ (f : Option Fault). Shown c.put.new.self.rows c.args.self.now.asked (unless f m (put m p (Some v)))) (sym (fault m s)) record {
-        held = c.put.ensures.rows
-            ∙ ap (λ (xs : List (Option PrefixRow)). set xs p (Some row)) s.held
-            ∙ ap (λ (r : PrefixRow). set (rows_of m.places) p (Some r)) c.row-row.ensures
-            ∙ map_rows_set m.places p (Some v);
+      held = λ m s. subst (λ (f : Option Fault). Shown c.put.new.self.tables.places c.args.self.now.asked (unless f m (put m p (Some v)))) (sym (fault m s)) record {
+        held = c.put.ensures ∙ ap (λ (xs : List (Option Prefix)). set xs p (Some v)) s.held;
         counted = s.counted;
         small = s.small;
       };

@@ -1,6 +1,0 @@
-use Rattle.std.proofs.Common.{◌≡◌}
-use Rattle.trie.specs.Trees.{Growing}
-use Rattle.trie.proofs.nodes.Tree.grow.Given as goal
-
-abbrev pub invariant-loop-depth : goal.invariant-loop-depth
-invariant-loop-depth l = ∥ Growing l.self l.row l.node l.depth ∥₁ × (l.self.rows ≡ l.initial.self.rows)

@@ -1,6 +1,0 @@
-use Rattle.std.proofs.Common.{◌≡◌, length}
-use Rattle.trie.proofs.Walks.{Walking}
-use Rattle.trie.proofs.nodes.Tree.seek.Given as goal
-
-abbrev pub invariant-loop-depth : goal.invariant-loop-depth
-invariant-loop-depth l = ∥ Walking l.self l.row.address l.path l.node l.depth ∥₁ × (length l.path ≡ 32)

@@ -1,6 +1,0 @@
-use Rattle.std.proofs.Common.{◌≡◌}
-use Rattle.trie.specs.Trees.{Trimming}
-use Rattle.trie.proofs.nodes.Tree.trim.Given as goal
-
-abbrev pub invariant-loop-depth : goal.invariant-loop-depth
-invariant-loop-depth l = ∥ Trimming l.self l.row l.path l.depth ∥₁ × (l.self.rows ≡ l.initial.self.rows)
