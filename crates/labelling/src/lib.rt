@@ -2,4 +2,3 @@
 
 pub mod board;
 pub mod found;
-pub mod told;
