@@ -59,15 +59,15 @@ times_append k (x ∷ xs) ys = let e = times_append k xs ys in omega arith
 absent : (x : ℕ) (xs : List ℕ) → has x xs ≡ false → times x xs ≡ 0
 absent x [] e = refl
 absent x (y ∷ xs) e =
-    let p = or_parts (eqb x y) (has x xs) e in
+    let p = or_parts (eqb y x) (has x xs) e in
     let r = absent x xs p.1 in
-    rw p.0 (omega arith)
+    grind (arith, nat_tests)
 
 present : (x : ℕ) (xs : List ℕ) → has x xs ≡ true → 1 ≤ times x xs
 present x [] e = absurd (false≢true e)
 present x (y ∷ xs) e =
-    ⊎_elim (λ h. rw h (omega arith))
-    (λ h. let r = present x xs (sym (ap (λ b. b || has x xs) h) ∙ e) in omega arith) (cases_Bool (eqb x y))
+    ⊎_elim (λ h. grind (arith, nat_tests))
+    (λ h. let r = present x xs (sym (ap (λ b. b || has x xs) h) ∙ e) in omega arith) (cases_Bool (eqb y x))
 
 -- one place more, where nothing is wrong
 first_right : (m p x : ℕ) (before xs : List ℕ) → first_wrong m before p (x ∷ xs) ≡ None → (is_field m x ≡ true) × (has x before ≡ false) × (first_wrong m (before ++ x ∷ []) (p + 1) xs ≡ None)

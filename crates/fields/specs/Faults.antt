@@ -1,5 +1,5 @@
 -- Refusals. Each has a number and a detail, and every promise about a refusal speaks of these two.
-use Rattle.std.specs.Prelude.{ℕ, Bool, cond, List, [], ◌∷◌, Some, None, Ok, Err, Option, Result}
+use Rattle.std.specs.Prelude.{ℕ, Bool, cond, List, [], ◌∷◌, ◌++◌, Some, None, Ok, Err, Option, Result, decimal}
 use Rattle.fields.specs.declared.faults.Fault.{Fault}
 use Rattle.fields.specs.declared.faults.Fault.TheVariants.{Line, Identifier, Prefix, Range, Flags, Order, Limit, Answers, Place, Label, Full, Elsewhere, Vacant, Short, Stands, Unknown, Twin, Crowded}
 
@@ -44,6 +44,10 @@ detail (Stands d) = d
 detail (Unknown d) = d
 detail (Twin d) = d
 detail Crowded = 96
+
+-- a refusal as text: its number, a space and its detail
+abbrev pub fault_text : Fault → List ℕ
+fault_text f = decimal (number f) ++ 32 ∷ decimal (detail f)
 
 -- a check: the fault, if the test tells of it
 abbrev pub when : Bool → Fault → Option Fault

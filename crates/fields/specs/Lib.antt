@@ -1,4 +1,5 @@
 pub mod Faults
+pub mod Keys
 pub mod Prefixes
 pub mod Ranges
 pub mod Protocols

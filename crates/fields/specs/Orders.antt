@@ -1,5 +1,6 @@
 -- Network orders: the fields in the order in which the nodes of the network combine them, each field once.
-use Rattle.std.specs.Prelude.{◌≡◌, ℕ, ◌+◌, ◌-◌, ◌≤◌, Bool, false, cond, not, ◌&&◌, ◌||◌, List, [], ◌∷◌, ◌++◌, Some, None, Option, ◌==◌, nat_le, slice_index}
+use Rattle.std.specs.Prelude.{◌≡◌, ℕ, ◌+◌, ◌-◌, ◌≤◌, Bool, cond, not, ◌&&◌, List, [], ◌∷◌, ◌++◌, Some, None, Option, ◌==◌, nat_le, slice_index}
+use Rattle.std.specs.List.{list_any}
 use Rattle.fields.specs.declared.faults.Fault.{Fault}
 use Rattle.fields.specs.declared.faults.Fault.TheVariants.{Order}
 
@@ -12,8 +13,7 @@ abbrev pub is_field : ℕ → ℕ → Bool
 is_field m n = nat_le 1 n && nat_le n m
 
 abbrev pub has : ℕ → List ℕ → Bool
-has n [] = false
-has n (x ∷ xs) = n == x || has n xs
+has n xs = list_any (λ x. x == n) xs
 
 -- how often n stands in a list
 abbrev pub times : ℕ → List ℕ → ℕ

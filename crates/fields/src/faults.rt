@@ -1,15 +1,12 @@
 // The refusals of the classifier and everything below it.
-ghost use Rattle.std.specs.Prelude.{◌≡◌, nat_eq};
-ghost use Rattle.fields.specs.Faults.{number, detail};
-ghost use Rattle.std.specs.Ordering.{eq_of_both, on};
-ghost use Rattle.std.specs.Cmp.Rules.{comparing};
-ghost use Rattle.std.proofs.Common.{rules};
-ghost use Rattle.std.specs.Cmp as Keys;
+ghost use Rattle.std.specs.Prelude.{◌≡◌, Some};
+ghost use Rattle.fields.specs.Faults.{number, detail, fault_text};
 
+use std::error::Error;
 use std::fmt;
 
 // One case for each refusal, in the order of its number, with what its detail is made of.
-#[derive(Clone, Copy)]
+#[derive(Clone, Copy, PartialEq, Eq, Debug)]
 pub enum Fault {
     // a console line of no form
     Line,
@@ -97,26 +94,13 @@ impl Fault {
     }
 }
 
-// Two refusals are equal if they have one number and one detail.
-impl PartialEq for Fault {
-    ghost eq = { eq_of_both (on number nat_eq) (on detail nat_eq) };
+// Shown by its number and its detail.
+impl fmt::Display for Fault {
+    ghost output = { λ f. Some (fault_text f) };
 
-    ghost laws = { Keys.partial_equiv_from_equiv (Prim.search (comparing, rules)) };
-
-    fn eq(&self, other: &Fault) -> bool {
-        self.number() == other.number() && self.detail() == other.detail()
-    }
-}
-
-impl Eq for Fault {
-    ghost laws = { Prim.search (comparing, rules) };
-}
-
-// Shown by its numbers.
-impl fmt::Debug for Fault {
     fn fmt<W: fmt::Write>(&self, f: &mut fmt::Formatter<W>) -> fmt::Result {
-        let number = self.number();
-        let detail = self.detail();
-        write!(f, "refused with {number}, detail {detail}")
+        write!(f, "{} {}", self.number(), self.detail())
     }
 }
+
+impl Error for Fault {}

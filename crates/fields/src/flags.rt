@@ -8,13 +8,13 @@ use crate::faults::Fault;
 use crate::keys::Key;
 use crate::kinds::Kind;
 
-#[derive(Clone, Copy)]
+#[derive(Clone, Copy, Debug, PartialEq, Eq)]
 pub struct FlagRow {
     pub mask: u8,
     pub wanted: u8,
 }
 
-#[derive(Clone, Copy)]
+#[derive(Clone, Copy, PartialEq, Eq, Debug)]
 pub struct FlagMask {
     row: FlagRow,
     ghost inside: { bit_and row.wanted row.mask ≡ row.wanted },
@@ -26,11 +26,7 @@ impl Key for FlagMask {
 
     ghost labels = { λ _. [] };
 
-    ghost decides = { first_of (Prim.search rules, Prim.grind (arith, Self.row.coded.inj)) };
-
-    fn same(&self, other: &FlagMask) -> bool {
-        self.row.mask == other.row.mask && self.row.wanted == other.row.wanted
-    }
+    ghost laws = { record { is_same = λ _ _. refl; decides = first_of (Prim.search rules, Prim.grind (arith, Self.row.coded.inj)) } };
 }
 
 impl Kind for FlagMask {

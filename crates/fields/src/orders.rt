@@ -34,10 +34,10 @@ impl NetworkOrder {
         ensures value { result ≡ field_at self.now.fields position }
         ensures field { IfSome result (λ f. (1 ≤ f) × (f ≤ field_count)) }
     {
-        if position < 1 || position > FIELDS {
-            return None;
+        match position {
+            1..=FIELDS => Some(self.fields[position - 1]),
+            _ => None,
         }
-        Some(self.fields[position - 1])
     }
 }
 
@@ -58,17 +58,5 @@ fn first_wrong(fields: &[u8]) -> Option<u8>
 fn goes_on(before: &[u8], number: u8) -> bool
     ensures { result ≡ (is_field field_count number && not (has number before.now)) }
 {
-    1 <= number && number <= FIELDS as u8 && !stands(number, before)
-}
-
-// Whether a number stands in a list.
-fn stands(number: u8, list: &[u8]) -> bool
-    ensures { result ≡ has number list.now }
-{
-    for x in list {
-        if number == *x {
-            return true;
-        }
-    }
-    false
+    1 <= number && number <= FIELDS as u8 && !before.contains(&number)
 }

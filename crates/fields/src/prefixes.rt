@@ -8,13 +8,13 @@ use crate::faults::Fault;
 use crate::keys::Key;
 use crate::kinds::Kind;
 
-#[derive(Clone, Copy)]
+#[derive(Clone, Copy, Debug, PartialEq, Eq)]
 pub struct PrefixRow {
     pub address: u32,
     pub length: u8,
 }
 
-#[derive(Clone, Copy)]
+#[derive(Clone, Copy, PartialEq, Eq, Debug)]
 pub struct Prefix {
     row: PrefixRow,
     ghost short: { row.length ≤ 32 },
@@ -27,11 +27,7 @@ impl Key for Prefix {
 
     ghost labels = { λ _. [] };
 
-    ghost decides = { first_of (Prim.search rules, Prim.grind (arith, Self.row.coded.inj)) };
-
-    fn same(&self, other: &Prefix) -> bool {
-        self.row.address == other.row.address && self.row.length == other.row.length
-    }
+    ghost laws = { record { is_same = λ _ _. refl; decides = first_of (Prim.search rules, Prim.grind (arith, Self.row.coded.inj)) } };
 }
 
 impl Kind for Prefix {

@@ -8,13 +8,13 @@ use crate::faults::Fault;
 use crate::keys::Key;
 use crate::kinds::Kind;
 
-#[derive(Clone, Copy)]
+#[derive(Clone, Copy, Debug, PartialEq, Eq)]
 pub enum ProtocolRow {
     Any,
     Only(u8),
 }
 
-#[derive(Clone, Copy)]
+#[derive(Clone, Copy, PartialEq, Eq, Debug)]
 pub struct Protocol {
     row: ProtocolRow,
     ghost fits: { fits_byte row ≡ true },
@@ -25,15 +25,7 @@ impl Key for Protocol {
 
     ghost labels = { λ _. [] };
 
-    ghost decides = { first_of (Prim.search rules, Prim.grind (arith, Self.row.coded.inj)) };
-
-    fn same(&self, other: &Protocol) -> bool {
-        match (self.row, other.row) {
-            (ProtocolRow::Any, ProtocolRow::Any) => true,
-            (ProtocolRow::Only(p), ProtocolRow::Only(q)) => p == q,
-            _ => false,
-        }
-    }
+    ghost laws = { record { is_same = Prim.search rules; decides = first_of (Prim.search rules, Prim.grind (arith, Self.row.coded.inj)) } };
 }
 
 impl Kind for Protocol {

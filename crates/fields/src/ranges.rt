@@ -8,13 +8,13 @@ use crate::faults::Fault;
 use crate::keys::Key;
 use crate::kinds::Kind;
 
-#[derive(Clone, Copy)]
+#[derive(Clone, Copy, Debug, PartialEq, Eq)]
 pub struct RangeRow {
     pub low: u16,
     pub high: u16,
 }
 
-#[derive(Clone, Copy)]
+#[derive(Clone, Copy, PartialEq, Eq, Debug)]
 pub struct PortRange {
     row: RangeRow,
     ghost ascends: { row.low ≤ row.high },
@@ -26,11 +26,7 @@ impl Key for PortRange {
 
     ghost labels = { λ _. [] };
 
-    ghost decides = { first_of (Prim.search rules, Prim.grind (arith, Self.row.coded.inj)) };
-
-    fn same(&self, other: &PortRange) -> bool {
-        self.row.low == other.row.low && self.row.high == other.row.high
-    }
+    ghost laws = { record { is_same = λ _ _. refl; decides = first_of (Prim.search rules, Prim.grind (arith, Self.row.coded.inj)) } };
 }
 
 impl Kind for PortRange {

@@ -1,4 +1,5 @@
 #![tactic(auto)]
 
+pub mod checks;
 pub mod marks;
 pub mod told;

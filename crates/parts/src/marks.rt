@@ -4,6 +4,7 @@ ghost use Rattle.fields.specs.Faults.{answer, unless};
 ghost use Rattle.parts.specs.Meaning.{list_fault};
 ghost use Rattle.parts.specs.Marks.{mark_found, marked, over_start, ListsMarked};
 
+use crate::checks::check_room;
 use fields::faults::Fault;
 
 // How many places a part has.
@@ -28,9 +29,7 @@ pub fn write_marked(marks: &[bool; PLACES], list: &mut [u8]) -> Result<usize, Fa
     ensures exactly { IfOk result (λ n. ListsMarked marks.now (take n list.new)) }
     ensures few { IfOk result (λ n. n ≤ 96) }
 {
-    if list.len() < PLACES {
-        return Err(Fault::Short(list.len() as u8));
-    }
+    check_room(list)?;
     let mut count = 0;
     for (label, marked) in marks.iter().enumerate() {
         if *marked {

@@ -1,11 +1,8 @@
-use Rattle.std.proofs.Common.{◌+◌, true, false, take, sym, refl, ◌∙◌}
+use Rattle.std.proofs.Common.{◌+◌, true, false, take, sym, ◌∙◌}
 use Rattle.std.proofs.lemmas.List.{at_drop_all}
 use Rattle.fields.specs.Orders.{first_wrong, field_count}
 use Rattle.fields.proofs.EachOnce.{first_wrong_turn}
 use Rattle.fields.proofs.orders.first_wrong.Goals as goal
-
-pub loop-i-init : goal.loop-i-init
-loop-i-init c = refl
 
 pub returns-then-not-goes_on : goal.returns-then-not-goes_on
 returns-then-not-goes_on c =

@@ -1,7 +1,6 @@
-use Rattle.std.proofs.Common.{Ok, sym, ap, arith}
-use Rattle.std.proofs.lemmas.Bool.Decides.{nat_tests}
+use Rattle.std.proofs.Common.{Ok, sym, ap}
 use Rattle.fields.proofs.Values.{flags_from_row}
 use Rattle.fields.proofs.flags.FlagMaskKind.form.Goals as goal
 
-pub returns : goal.returns
-returns c = record { formed = grind (arith, nat_tests); again = λ v e. ap Ok (flags_from_row _ v (sym e)) }
+pub returns-clause-again : goal.returns-clause-again
+returns-clause-again c = λ v e. ap Ok (flags_from_row _ v (sym e))
