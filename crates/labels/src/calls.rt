@@ -97,13 +97,18 @@ impl<K: Key> LabelTable<K> {
     }
 }
 
+// Whether a slot is in use, by the key.
+fn has<K: Key>(slot: &Option<Used<K>>, key: &K) -> bool
+    ensures { result ≡ here K.Key.eq key.now slot.now }
+{
+    slot.is_some_and(|used| *key == used.key)
+}
+
 // The slot of a key.
 fn place_of<K: Key>(slots: &[Option<Used<K>>], key: &K) -> Option<usize>
     ensures { result ≡ position (here K.Key.eq key.now) slots.now }
 {
-    slots
-        .iter()
-        .position(|slot| slot.is_some_and(|used| key.same(&used.key)))
+    slots.iter().position(|slot| has(slot, key))
 }
 
 // The first free slot.

@@ -21,7 +21,7 @@ returns-in_err-used-clause-room g c fs h few =
 pub returns-in-Some-clause-labelled : goal.returns-in-Some-clause-labelled
 returns-in-Some-clause-labelled g c before after h =
     let eq = g.K.Key.eq in
-    let law = g.met.K.Key.decides in
+    let law = g.met.K.Key.laws.decides in
     let slots = c.args.self.now.slots in
     let i = c.in-Some.i in
     let u = c.in_ok-used.used in
@@ -42,7 +42,7 @@ returns-in-Some-clause-fresh g c fs h =
     let i = c.in-Some.i in
     let place : position (here eq c.args.key) slots ≡ Some i = search rules in
     let hit = position-Some (here eq c.args.key) slots i None place in
-    sym (ne_eqb (occurrences eq c.args.key fs) 0 (λ z. omega (arith, present eq g.met.K.Key.decides slots fs c.args.key i h hit.0 hit.1)))
+    sym (ne_eqb (occurrences eq c.args.key fs) 0 (λ z. omega (arith, present eq g.met.K.Key.laws.decides slots fs c.args.key i h hit.0 hit.1)))
 
 pub returns-in-Some-clause-keyed : goal.returns-in-Some-clause-keyed
 returns-in-Some-clause-keyed g c =
@@ -58,7 +58,7 @@ pub returns-in_err-i-clause-room : goal.returns-in_err-i-clause-room
 returns-in_err-i-clause-room g c fs h few =
     let slots = c.args.self.now.slots in
     let full : position (λ s. not (used s)) slots ≡ None = search rules in
-    absurd (omega (arith, h.size, no_room g.K.Key.eq g.met.K.Key.decides slots fs h (λ i l. not-false (used (get_or slots i None)) (none_passes (λ s. not (used s)) slots None full i l))))
+    absurd (omega (arith, h.size, no_room g.K.Key.eq g.met.K.Key.laws.decides slots fs h (λ i l. not-false (used (get_or slots i None)) (none_passes (λ s. not (used s)) slots None full i l))))
 
 -- a free slot, where none has the key
 pub returns-clause-labelled : goal.returns-clause-labelled
@@ -68,14 +68,14 @@ returns-clause-labelled g c before after h =
     let place : position (here eq c.args.key) slots ≡ None = search rules in
     let free : position (λ s. not (used s)) slots ≡ Some c.in_ok-i.i = search rules in
     let at = free_slot slots c.in_ok-i.i free in
-    entered eq g.met.K.Key.decides slots before after c.in_ok-i.i c.args.key h at.0 at.1 (none_passes (here eq c.args.key) slots None place)
+    entered eq g.met.K.Key.laws.decides slots before after c.in_ok-i.i c.args.key h at.0 at.1 (none_passes (here eq c.args.key) slots None place)
 
 pub returns-clause-fresh : goal.returns-clause-fresh
 returns-clause-fresh g c fs h =
     let eq = g.K.Key.eq in
     let slots = c.args.self.now.slots in
     let place : position (here eq c.args.key) slots ≡ None = search rules in
-    sym (eq-eqb (occurrences eq c.args.key fs) 0 (absent eq g.met.K.Key.decides slots fs c.args.key h (none_passes (here eq c.args.key) slots None place)))
+    sym (eq-eqb (occurrences eq c.args.key fs) 0 (absent eq g.met.K.Key.laws.decides slots fs c.args.key h (none_passes (here eq c.args.key) slots None place)))
 
 pub returns-clause-keyed : goal.returns-clause-keyed
 returns-clause-keyed g c =
@@ -84,4 +84,4 @@ returns-clause-keyed g c =
     let place : position (here eq c.args.key) slots ≡ None = search rules in
     let free : position (λ s. not (used s)) slots ≡ Some c.in_ok-i.i = search rules in
     let at = free_slot slots c.in_ok-i.i free in
-    (omega (arith, at.0, c.args.self.now.size), came eq slots c.in_ok-i.i c.args.key 1 at.1 (gone_all eq g.met.K.Key.decides slots c.args.key (none_passes (here eq c.args.key) slots None place)))
+    (omega (arith, at.0, c.args.self.now.size), came eq slots c.in_ok-i.i c.args.key 1 at.1 (gone_all eq g.met.K.Key.laws.decides slots c.args.key (none_passes (here eq c.args.key) slots None place)))

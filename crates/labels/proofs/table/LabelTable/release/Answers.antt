@@ -16,12 +16,12 @@ returns-in_err-key-clause-labelled g c before after key h =
     let eq = g.K.Key.eq in
     let slots = c.args.self.now.slots in
     let at : get_or slots c.args.label None ≡ None = search rules in
-    absurd (both_ways (here eq key (get_or slots c.args.label None)) (ap (here eq key) at) (own eq g.met.K.Key.decides slots before after c.args.label key h))
+    absurd (both_ways (here eq key (get_or slots c.args.label None)) (ap (here eq key) at) (own eq g.met.K.Key.laws.decides slots before after c.args.label key h))
 
 pub returns-clause-labelled : goal.returns-clause-labelled
 returns-clause-labelled g c before after key h =
     let eq = g.K.Key.eq in
-    let law = g.met.K.Key.decides in
+    let law = g.met.K.Key.laws.decides in
     let slots = c.args.self.now.slots in
     let u = c.in_ok-key.field-0 in
     let own_slot : get_or slots c.args.label None ≡ Some u = search rules in
