@@ -25,8 +25,7 @@ pub fn perform(table: &mut FilterTable, call: &Call)
         Call::Remove(identifier) => {
             let _ = table.remove(identifier);
         }
-        Call::Inspect(_, _) => {}
-        Call::Search(_, _, _) => {}
+        Call::Inspect(..) | Call::Search(..) => {}
     }
 }
 

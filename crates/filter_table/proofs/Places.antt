@@ -1,32 +1,21 @@
 -- Places in a list: counting what stands before the first element that passes.
-use Rattle.std.proofs.Common.{◌≡◌, ℕ, zero, suc, ◌+◌, ◌<◌, ◌≤◌, Bool, true, false, cond, ltb, List, [], ◌∷◌, length, get_or, drop, sym, refl, ap, ◌∙◌, ⊎_elim, arith}
-use Rattle.std.specs.List.{insert, remove}
-use Rattle.std.proofs.lemmas.List.{at_drop_more, at_drop_all}
-use Rattle.std.proofs.lemmas.Bool.{cases_Bool, and_parts, and_from}
+use Rattle.std.proofs.Common.{◌≡◌, ℕ, zero, suc, ◌+◌, ◌<◌, ◌≤◌, Bool, true, cond, ltb, List, [], ◌∷◌, length, get_or, Some, None, Option, ◌&&◌, sym, refl, ap, ◌∙◌, ⊎_elim, arith}
+use Rattle.std.specs.Option.{option_map, unwrap_or}
+use Rattle.std.specs.List.{insert, remove, find, position_or_len}
+use Rattle.std.proofs.lemmas.List.Recursion.{is_position_or_len}
+use Rattle.std.proofs.lemmas.Bool.{cases_Bool, and_parts, and_from, ltb-false}
 use Rattle.std.proofs.lemmas.Bool.Decides.{nat_tests}
 use Rattle.filters.specs.declared.rows.FilterRow.{FilterRow}
 use Rattle.filters.specs.Counting.{some, every, before}
-use Rattle.filters.specs.Filters.{ranks_ahead, same_identifier}
-use Rattle.filters.specs.Standing.{put, without, rank_place, place_of}
+use Rattle.filters.specs.Filters.{ranks_ahead, same_identifier, same_values}
+use Rattle.filters.specs.Scans.{first}
+use Rattle.fields.specs.declared.faults.Fault.TheVariants.{Twin}
+use Rattle.filters.specs.Standing.{twin, put, without, rank_place, place_of}
 
 module _ {X : Type 0} (p : X → Bool) where
-  -- a loop that stops at the first element that passes
-  pub before_here : (xs : List X) (i : ℕ) (d : X) → i < length xs → i + before p (drop i xs) ≡ before p xs → p (get_or xs i d) ≡ true → i ≡ before p xs
-  before_here xs i d l inv e =
-      let s = at_drop_more (before p) xs i d l in
-      let t : before p (drop i xs) ≡ 0 = s ∙ ap (λ (b : Bool). cond b 0 (suc (before p (drop (i + 1) xs)))) e in
-      omega arith
-
-  pub before_more : (xs : List X) (i : ℕ) (d : X) → i < length xs → i + before p (drop i xs) ≡ before p xs → p (get_or xs i d) ≡ false → i + 1 + before p (drop (i + 1) xs) ≡ before p xs
-  before_more xs i d l inv e =
-      let s = at_drop_more (before p) xs i d l in
-      let t : before p (drop i xs) ≡ suc (before p (drop (i + 1) xs)) = s ∙ ap (λ (b : Bool). cond b 0 (suc (before p (drop (i + 1) xs)))) e in
-      omega arith
-
-  pub before_all : (xs : List X) (i : ℕ) → i ≤ length xs → length xs ≤ i → i + before p (drop i xs) ≡ before p xs → length xs ≡ before p xs
-  before_all xs i u l inv =
-      let s : before p (drop i xs) ≡ 0 = at_drop_all (before p) xs i l in
-      omega arith
+  -- the library's words for it
+  pub before_is : (xs : List X) → before p xs ≡ position_or_len p xs
+  before_is xs = is_position_or_len (before p) p refl (λ x ys. let e : suc (before p ys) ≡ 1 + before p ys = omega arith in ap (λ (k : ℕ). cond (p x) 0 k) e) xs
 
   pub before_le : (xs : List X) → before p xs ≤ length xs
   before_le [] = omega arith
@@ -39,6 +28,27 @@ module _ {X : Type 0} (p : X → Bool) where
   some_before (x ∷ xs) =
       let r = some_before xs in
       ⊎_elim (λ e. rw e (grind (arith, nat_tests))) (λ e. rw e (grind (arith, nat_tests))) (cases_Bool (p x))
+
+  -- what `position` answers
+  pub place_is : (xs : List X) → cond (ltb (position_or_len p xs) (length xs)) (Some (position_or_len p xs)) None ≡ cond (some p xs) (Some (before p xs)) None
+  place_is xs =
+      ap (λ (k : ℕ). cond (ltb k (length xs)) (Some k) None) (sym (before_is xs))
+      ∙ ap (λ (b : Bool). cond b (Some (before p xs)) None) (sym (some_before xs))
+
+  pub place_or_length : (xs : List X) → unwrap_or (cond (some p xs) (Some (before p xs)) None) (length xs) ≡ before p xs
+  place_or_length xs =
+      let l = before_le xs in
+      ⊎_elim
+      (λ e. rw e refl)
+      (λ e. let m : length xs ≤ before p xs = ltb-false (before p xs) (length xs) (sym (some_before xs) ∙ e) in rw e (omega arith))
+      (cases_Bool (some p xs))
+
+  -- what `find` answers, among elements that all pass another test
+  pub first_is : (q : X → Bool) (xs : List X) → every q xs ≡ true → find (λ x. q x && p x) xs ≡ first p xs
+  first_is q [] h = refl
+  first_is q (x ∷ xs) h =
+      let e = and_parts (q x) (every q xs) h in
+      rw e.0 (ap (λ (r : Option X). cond (p x) (Some x) r) (first_is q xs e.1))
 
   pub every_put : (xs : List X) (i : ℕ) (x : X) → every p xs ≡ true → p x ≡ true → every p (insert xs i x) ≡ true
   every_put xs zero x h e = and_from (p x) (every p xs) e h
@@ -76,3 +86,9 @@ without_is id (g ∷ gs) =
     (λ e. ap (λ (b : Bool). remove (g ∷ gs) (cond b 0 (suc (place_of id gs)))) e ∙ sym (ap (λ (b : Bool). cond b gs (g ∷ without id gs)) e))
     (λ e. ap (λ (b : Bool). remove (g ∷ gs) (cond b 0 (suc (place_of id gs)))) e ∙ ap (λ (r : List FilterRow). g ∷ r) (without_is id gs) ∙ sym (ap (λ (b : Bool). cond b gs (g ∷ without id gs)) e))
     (cases_Bool (same_identifier id g))
+
+-- the refusal by the first filter of the same values
+pub twin_is : (fs : List FilterRow) (f : FilterRow) → option_map (λ (g : FilterRow). Twin g.identifier) (find (λ g. same_values g f) fs) ≡ twin fs f
+twin_is [] f = refl
+twin_is (g ∷ gs) f =
+    ⊎_elim (λ e. rw e refl) (λ e. rw e (twin_is gs f)) (cases_Bool (same_values g f))

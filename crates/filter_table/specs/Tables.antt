@@ -1,8 +1,8 @@
 -- The filter table: what stands in it.
-use Rattle.std.specs.Prelude.{List, take}
+use Rattle.std.specs.Prelude.{List}
 use Rattle.filters.specs.declared.rows.FilterRow.{FilterRow}
 use Rattle.filter_table.specs.declared.table.FilterTable.{FilterTable}
 
 -- the standing filters, in rank order
 abbrev pub held : FilterTable → List FilterRow
-held t = take t.count t.rows
+held t = t.rows.items

@@ -1,8 +1,9 @@
 // Looking through standing filters in their order.
 ghost use Rattle.std.specs.Prelude.{◌≡◌, ◌≤◌, true, ◌&&◌, length};
+ghost use Rattle.fields.specs.Faults.{answer};
 ghost use Rattle.filters.specs.Counting.{every};
-ghost use Rattle.filters.specs.Filters.{matches, lawful, exclusive};
-ghost use Rattle.filters.specs.Standing.{twin, rank_place, place_of};
+ghost use Rattle.filters.specs.Filters.{matches, lawful};
+ghost use Rattle.filters.specs.Standing.{twin, position as rank_position, rank_place};
 ghost use Rattle.filters.specs.Scans.{best, wins, joins, listed, written};
 
 use fields::faults::Fault;
@@ -13,55 +14,33 @@ use filters::rows::{Class, FilterRow, Header};
 pub fn rank_place(rows: &[FilterRow], row: &FilterRow) -> usize
     ensures { result ≡ rank_place row.now rows.now }
 {
-    for (i, other) in rows.iter().enumerate() {
-        if row.ranks_ahead(other) {
-            return i;
-        }
-    }
-    rows.len()
+    rows.iter()
+        .position(|other| row.ranks_ahead(other))
+        .unwrap_or(rows.len())
 }
 
-// How many filters stand before the first of an identifier.
-pub fn place_of(rows: &[FilterRow], identifier: u16) -> usize
-    ensures { result ≡ place_of identifier rows.now }
+// The position of the first filter of an identifier.
+pub fn position_of(rows: &[FilterRow], identifier: u16) -> Option<usize>
+    ensures { result ≡ rank_position identifier rows.now }
 {
-    for (i, other) in rows.iter().enumerate() {
-        if identifier == other.identifier {
-            return i;
-        }
-    }
-    rows.len()
+    rows.iter().position(|row| row.identifier == identifier)
 }
 
-// The refusal of a row whose values a filter has.
-pub fn twin_of(rows: &[FilterRow], row: &FilterRow) -> Option<Fault>
-    ensures { result ≡ twin rows.now row.now }
+// Refuses a row whose values a filter has.
+pub fn check_twin(rows: &[FilterRow], row: &FilterRow) -> Result<(), Fault>
+    ensures { result ≡ answer (twin rows.now row.now) tt }
 {
-    for other in rows {
-        if other.same_values(row) {
-            return Some(Fault::Twin(other.identifier));
-        }
+    match rows.iter().find(|other| other.same_values(row)) {
+        Some(other) => Err(Fault::Twin(other.identifier)),
+        None => Ok(()),
     }
-    None
 }
 
 // Whether a row is a filter's that the header matches.
 pub fn row_matches(row: &FilterRow, header: &Header) -> bool
     ensures { result ≡ (lawful row.now && matches row.now header.now) }
 {
-    let Ok(filter) = Filter::form(*row) else {
-        return false;
-    };
-    filter.matches(header)
-}
-
-fn is_exclusive(class: Class) -> bool
-    ensures { result ≡ exclusive class }
-{
-    match class {
-        Class::Exclusive => true,
-        Class::NonExclusive => false,
-    }
+    Filter::form(*row).is_ok_and(|filter| filter.matches(header))
 }
 
 // The first exclusive filter that the header matches.
@@ -69,18 +48,13 @@ pub(crate) fn best_of(rows: &[FilterRow], header: &Header) -> Option<FilterRow>
     requires { every lawful rows.now ≡ true }
     ensures { result ≡ best rows.now header.now }
 {
-    for row in rows {
-        if may_win(row, header) {
-            return Some(*row);
-        }
-    }
-    None
+    rows.iter().find(|row| may_win(row, header)).copied()
 }
 
 fn may_win(row: &FilterRow, header: &Header) -> bool
-    ensures { lawful row.now ≡ true → result ≡ wins header.now row.now }
+    ensures { result ≡ (lawful row.now && wins header.now row.now) }
 {
-    is_exclusive(row.class) && row_matches(row, header)
+    row.class == Class::Exclusive && row_matches(row, header)
 }
 
 // Writes the identifiers of the first non-exclusive filters that the header matches, at most so many, and answers how many.
@@ -91,20 +65,15 @@ pub(crate) fn list_of(rows: &[FilterRow], header: &Header, most: usize, list: &m
     ensures list { list.new ≡ written (listed rows.now header.now most) list.old }
 {
     let mut count = 0;
-    for row in rows {
-        if count >= most {
-            return count;
-        }
-        if may_join(row, header) {
-            list[count] = row.identifier;
-            count += 1;
-        }
+    for row in rows.iter().filter(|row| may_join(row, header)).take(most) {
+        list[count] = row.identifier;
+        count += 1;
     }
     count
 }
 
 fn may_join(row: &FilterRow, header: &Header) -> bool
-    ensures { lawful row.now ≡ true → result ≡ joins header.now row.now }
+    ensures { result ≡ (lawful row.now && joins header.now row.now) }
 {
-    !is_exclusive(row.class) && row_matches(row, header)
+    row.class == Class::NonExclusive && row_matches(row, header)
 }

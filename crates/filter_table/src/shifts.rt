@@ -2,8 +2,7 @@
 ghost use Rattle.std.specs.Prelude.{◌≡◌};
 ghost use Rattle.filter_table.specs.Shifts.{opened, closed, taken};
 
-// How many rows a table has room for.
-pub const CAPACITY: usize = 96;
+pub use crate::table::CAPACITY;
 
 // Puts a row at a position among the first rows, as many as count; nothing is done where there is no such position or no room.
 pub fn insert_at<R: Copy>(rows: &mut [R; CAPACITY], count: usize, position: usize, row: R)

@@ -1,9 +1,9 @@
 // The filter list as a table: the standing filters in rank order, in the first rows.
-ghost use Rattle.std.specs.Prelude.{◌≡◌, ◌≤◌, true, length, take};
+ghost use Rattle.std.specs.Prelude.{◌≡◌, true};
 ghost use Rattle.filters.specs.Counting.{every};
 ghost use Rattle.filters.specs.Filters.{lawful};
 
-use crate::shifts::CAPACITY;
+use arrayvec::ArrayVec;
 use filters::rows::FilterRow;
 
 pub mod checks;
@@ -11,11 +11,11 @@ pub mod counts;
 pub mod edits;
 pub mod scans;
 
+// How many filters a table has room for.
+pub const CAPACITY: usize = 96;
+
 #[derive(Drop)]
 pub struct FilterTable {
-    rows: [FilterRow; CAPACITY],
-    count: usize,
-    ghost size: { length rows ≡ 96 },
-    ghost few: { count ≤ 96 },
-    ghost formed: { every lawful (take count rows) ≡ true },
+    rows: ArrayVec<FilterRow, CAPACITY>,
+    ghost formed: { every lawful rows.items ≡ true },
 }

@@ -5,9 +5,8 @@ use fields::prefixes::PrefixRow;
 use fields::protocols::ProtocolRow;
 use fields::ranges::RangeRow;
 use filter_table::table::FilterTable;
-use filters::calls::Call;
+use filters::calls::{Best, Call, Scanned};
 use filters::rows::{Class, FilterRow, Header};
-use std::test::Fail;
 
 const LONG: PrefixRow = PrefixRow {
     address: 0,
@@ -63,12 +62,9 @@ fn for_port(identifier: u16, port: u16, class: Class) -> FilterRow {
     }
 }
 
-// Whether a fault has this number and detail.
-fn is(fault: Option<Fault>, number: u8, detail: u32) -> bool {
-    let Some(fault) = fault else {
-        return false;
-    };
-    fault.number() == number && fault.detail() == detail
+// The number and the detail of a refusal.
+fn told(fault: Option<Fault>) -> Option<(u8, u32)> {
+    fault.map(|fault| (fault.number(), fault.detail()))
 }
 
 // The identifiers 1 to 96, each for the port of its number.
@@ -86,39 +82,39 @@ fn the_first_fault_decides(rt: HostRuntime) {
     let table = full();
     let mut row = for_port(0, 7, Class::Exclusive);
     row.source = LONG;
-    assert!(rt; is(table.refusal(&Call::Add(row)), 2, 0));
+    assert_eq!(rt; told(table.refusal(&Call::Add(row))), Some((2, 0)));
     row.identifier = 7;
     row.destination = BEYOND;
-    assert!(rt; is(table.refusal(&Call::Add(row)), 3, 33));
+    assert_eq!(rt; told(table.refusal(&Call::Add(row))), Some((3, 33)));
     row.source = EVERY_ADDRESS;
     row.source_port = TURNED;
-    assert!(rt; is(table.refusal(&Call::Add(row)), 3, 8));
+    assert_eq!(rt; told(table.refusal(&Call::Add(row))), Some((3, 8)));
     row.destination = EVERY_ADDRESS;
     row.destination_port = RangeRow { low: 9, high: 8 };
-    assert!(rt; is(table.refusal(&Call::Add(row)), 4, 6));
+    assert_eq!(rt; told(table.refusal(&Call::Add(row))), Some((4, 6)));
     row.source_port = RangeRow { low: 7, high: 7 };
     row.flags = OUTSIDE;
-    assert!(rt; is(table.refusal(&Call::Add(row)), 4, 9));
+    assert_eq!(rt; told(table.refusal(&Call::Add(row))), Some((4, 9)));
     row.destination_port = EVERY_PORT;
-    assert!(rt; is(table.refusal(&Call::Add(row)), 5, 1));
+    assert_eq!(rt; told(table.refusal(&Call::Add(row))), Some((5, 1)));
     row.flags = EVERY_FLAG;
-    assert!(rt; is(table.refusal(&Call::Add(row)), 15, 7));
+    assert_eq!(rt; told(table.refusal(&Call::Add(row))), Some((15, 7)));
     row.identifier = 97;
-    assert!(rt; is(table.refusal(&Call::Add(row)), 17, 7));
+    assert_eq!(rt; told(table.refusal(&Call::Add(row))), Some((17, 7)));
     row.source_port = RangeRow { low: 97, high: 97 };
-    assert!(rt; is(table.refusal(&Call::Add(row)), 18, 96));
+    assert_eq!(rt; told(table.refusal(&Call::Add(row))), Some((18, 96)));
 }
 
 #[test]
 fn removals_and_inspections(rt: HostRuntime) {
     let table = full();
-    assert!(rt; is(table.refusal(&Call::Remove(0)), 2, 0));
-    assert!(rt; is(table.refusal(&Call::Remove(97)), 16, 97));
+    assert_eq!(rt; told(table.refusal(&Call::Remove(0))), Some((2, 0)));
+    assert_eq!(rt; told(table.refusal(&Call::Remove(97))), Some((16, 97)));
     assert!(rt; table.refusal(&Call::Remove(96)).is_none());
-    assert!(rt; is(table.refusal(&Call::Inspect(0, 0)), 2, 0));
-    assert!(rt; is(table.refusal(&Call::Inspect(97, 12)), 9, 12));
-    assert!(rt; is(table.refusal(&Call::Inspect(97, 0)), 9, 0));
-    assert!(rt; is(table.refusal(&Call::Inspect(97, 11)), 16, 97));
+    assert_eq!(rt; told(table.refusal(&Call::Inspect(0, 0))), Some((2, 0)));
+    assert_eq!(rt; told(table.refusal(&Call::Inspect(97, 12))), Some((9, 12)));
+    assert_eq!(rt; told(table.refusal(&Call::Inspect(97, 0))), Some((9, 0)));
+    assert_eq!(rt; told(table.refusal(&Call::Inspect(97, 11))), Some((16, 97)));
     assert!(rt; table.refusal(&Call::Inspect(1, 11)).is_none());
 }
 
@@ -127,9 +123,18 @@ fn searches(rt: HostRuntime) {
     let table = full();
     assert!(rt; table.refusal(&Call::Search(HEADER, 0, 0)).is_none());
     assert!(rt; table.refusal(&Call::Search(HEADER, 16, 16)).is_none());
-    assert!(rt; is(table.refusal(&Call::Search(HEADER, 17, 20)), 7, 17));
-    assert!(rt; is(table.refusal(&Call::Search(HEADER, 17, 3)), 7, 17));
-    assert!(rt; is(table.refusal(&Call::Search(HEADER, 4, 3)), 8, 3));
+    assert_eq!(rt;
+        told(table.refusal(&Call::Search(HEADER, 17, 20))),
+        Some((7, 17))
+    );
+    assert_eq!(rt;
+        told(table.refusal(&Call::Search(HEADER, 17, 3))),
+        Some((7, 17))
+    );
+    assert_eq!(rt;
+        told(table.refusal(&Call::Search(HEADER, 4, 3))),
+        Some((8, 3))
+    );
 }
 
 // The 97th filter is refused, and taken after one removal.
@@ -137,17 +142,17 @@ fn searches(rt: HostRuntime) {
 fn the_table_fills(rt: HostRuntime) {
     let mut table = full();
     let more = for_port(97, 97, Class::NonExclusive);
-    assert!(rt; table.count() == 96);
+    assert_eq!(rt; table.count(), 96);
     assert!(rt; table.add(more).is_err());
     assert!(rt; table.remove(7).is_ok());
-    assert!(rt; table.count() == 95);
+    assert_eq!(rt; table.count(), 95);
     assert!(rt; table.add(more).is_ok());
-    assert!(rt; table.count() == 96);
+    assert_eq!(rt; table.count(), 96);
 }
 
 // Exclusive matches are not listed, and what the list does not fill stays.
 #[test]
-fn a_scan(rt: HostRuntime) -> Result<(), Fail> {
+fn a_scan(rt: HostRuntime) {
     let mut table = FilterTable::empty();
     let mut wide = for_port(3, 7, Class::NonExclusive);
     wide.source_port = EVERY_PORT;
@@ -158,15 +163,10 @@ fn a_scan(rt: HostRuntime) -> Result<(), Fail> {
     assert!(rt; table.add(narrow).is_ok());
     let mut list = [9; 4];
     let scanned = table.scan(&HEADER, 4, &mut list);
-    let Ok(scanned) = scanned else {
-        return Err(Fail::new("refused"));
-    };
-    let Some(best) = scanned.best else {
-        return Err(Fail::new("none is best"));
-    };
-    assert!(rt; best.identifier == 1 && best.flow == 7);
-    assert!(rt; scanned.listed == 2);
-    assert!(rt; list[0] == 2 && list[1] == 3);
-    assert!(rt; list[2] == 9 && list[3] == 9);
-    Ok(())
+    let best = Some(Best {
+        identifier: 1,
+        flow: 7,
+    });
+    assert_eq!(rt; scanned, Ok(Scanned { best, listed: 2 }));
+    assert_eq!(rt; list, [2, 3, 9, 9]);
 }

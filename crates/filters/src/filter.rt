@@ -34,12 +34,12 @@ impl Filter {
         if row.identifier == 0 {
             return Err(Fault::Identifier);
         }
-        let source = <Prefix as Kind>::form(row.source)?;
-        let destination = <Prefix as Kind>::form(row.destination)?;
-        let source_port = <PortRange as Kind>::form(row.source_port)?;
-        let destination_port = <PortRange as Kind>::form(row.destination_port)?;
-        let protocol = <Protocol as Kind>::form(row.protocol)?;
-        let flags = <FlagMask as Kind>::form(row.flags)?;
+        let source = Prefix::form(row.source)?;
+        let destination = Prefix::form(row.destination)?;
+        let source_port = PortRange::form(row.source_port)?;
+        let destination_port = PortRange::form(row.destination_port)?;
+        let protocol = Protocol::form(row.protocol)?;
+        let flags = FlagMask::form(row.flags)?;
         Ok(Filter {
             identifier: row.identifier,
             source,

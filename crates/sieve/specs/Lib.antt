@@ -1,5 +1,4 @@
 pub mod Touched
 pub mod Counted
 pub mod Sieved
-pub mod Sieving
-pub mod Counting
+pub mod Proper

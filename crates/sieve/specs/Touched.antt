@@ -1,5 +1,6 @@
 -- Which of the 512 counters a pair touches.
-use Rattle.std.specs.Prelude.{◌≡◌, ℕ, ◌*◌, ◌/◌, ◌%◌, Bool, true, false, cond, ◌&&◌, ◌||◌, List, [], ◌∷◌, ◌++◌, map, Some, None, Option, ◌==◌}
+use Rattle.std.specs.Prelude.{◌≡◌, ℕ, ◌*◌, ◌/◌, ◌%◌, Bool, false, cond, List, [], ◌∷◌, ◌++◌, map, Some, None, Option, ◌==◌}
+use Rattle.std.specs.List.{list_any, list_all}
 use Rattle.stores.specs.declared.pairs.Pair.{Pair}
 use Rattle.stores.specs.Pairs.{code}
 
@@ -14,8 +15,7 @@ abbrev pub spread : Pair → List ℕ
 spread p = map (counter p) multipliers
 
 abbrev pub has : ℕ → List ℕ → Bool
-has x [] = false
-has x (y ∷ ys) = x == y || has x ys
+has x ys = list_any (λ y. y == x) ys
 
 -- a counter for each multiplier, and none where an earlier multiplier gave the same one
 abbrev pub slots_from : List ℕ → List ℕ → List (Option ℕ)
@@ -41,5 +41,4 @@ Apart (x ∷ xs) = (has x xs ≡ false) × Apart xs
 
 -- every number passes a test
 abbrev pub every : (ℕ → Bool) → List ℕ → Bool
-every t [] = true
-every t (x ∷ xs) = t x && every t xs
+every t xs = list_all t xs

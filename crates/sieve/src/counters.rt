@@ -2,19 +2,15 @@
 ghost use Rattle.std.specs.Prelude.{◌≡◌, ℕ, ltb, List, [], ◌∷◌, if◌then◌else◌, Some, None, nat_lt, slice_index};
 ghost use Rattle.stores.specs.Pairs.{pair as pair_of};
 ghost use Rattle.sieve.specs.Touched.{counter as counter_of, has, spread as spread_of, slots as slots_of, touched as touched_by, listed, Apart, every};
-ghost use Rattle.sieve.specs.Counted.{change_at, change_all};
+ghost use Rattle.sieve.specs.Counted.{Gives, change_at, change_all};
 
 use stores::pairs::Pair;
 
 // How many counters a sieve has.
 pub const COUNTERS: usize = 512;
 
-// One pair more that touches a counter, or one fewer.
-#[derive(Clone, Copy)]
-pub enum Change {
-    Up,
-    Down,
-}
+// Each of these spreads a pair's code over the counters.
+const MULTIPLIERS: [u16; 4] = [5, 37, 211, 1009];
 
 fn counter(pair: Pair, multiplier: u16) -> u16
     ensures { result ≡ counter_of pair multiplier }
@@ -22,27 +18,11 @@ fn counter(pair: Pair, multiplier: u16) -> u16
     (pair.code() * multiplier as usize / 16 % COUNTERS) as u16
 }
 
-// Whether a counter stands among the earlier ones.
-fn stands_in(counter: u16, earlier: &[u16]) -> bool
-    ensures { result ≡ has counter earlier.now }
-{
-    for other in earlier {
-        if counter == *other {
-            return true;
-        }
-    }
-    false
-}
-
 // A counter, unless it repeats an earlier one.
 fn unless_in(counter: u16, earlier: &[u16]) -> Option<u16>
     ensures { result ≡ (if has counter earlier.now then None else Some counter) }
 {
-    if stands_in(counter, earlier) {
-        None
-    } else {
-        Some(counter)
-    }
+    (!earlier.contains(&counter)).then_some(counter)
 }
 
 // The counters that a pair touches, each once.
@@ -52,59 +32,41 @@ pub fn touched(pair: Pair) -> [Option<u16>; 4]
     ensures once { Apart (touched_by pair) }
     ensures figures { (touched_by (pair_of 1 0) ≡ 30 ∷ 222 ∷ 242 ∷ 422 ∷ []) × (touched_by (pair_of 0 0) ≡ 0 ∷ []) }
 {
-    let a = counter(pair, 5);
-    let b = counter(pair, 37);
-    let c = counter(pair, 211);
-    let d = counter(pair, 1009);
-    [
-        Some(a),
-        unless_in(b, &[a]),
-        unless_in(c, &[a, b]),
-        unless_in(d, &[a, b, c]),
-    ]
+    let spread = MULTIPLIERS.map(|multiplier| counter(pair, multiplier));
+    std::array::from_fn(|i| unless_in(spread[i], &spread[..i]))
 }
 
-fn count_at(counters: &mut [u8; COUNTERS], slot: Option<u16>, by: Change)
-    ensures { counters.new ≡ change_at by slot counters.old }
+fn count_at<F: Fn(u8) -> u8>(counters: &mut [u8; COUNTERS], slot: Option<u16>, step: &F)
+    requires { F.IsAlwaysCallable step.now }
+    ensures { (change : ℕ → ℕ) → Gives (F.post step.now) change → counters.new ≡ change_at change slot counters.old }
 {
-    let Some(i) = slot else {
-        return;
-    };
-    if (i as usize) < COUNTERS {
-        let count = counters[i as usize];
-        counters[i as usize] = match by {
-            Change::Up => count.saturating_add(1),
-            Change::Down => count.saturating_sub(1),
-        };
+    if let Some(i) = slot
+        && (i as usize) < COUNTERS
+    {
+        counters[i as usize] = step(counters[i as usize]);
     }
 }
 
-// Counts a pair in or out, at each counter that it touches.
-pub fn count_pair(counters: &mut [u8; COUNTERS], slots: &[Option<u16>; 4], by: Change)
-    ensures { counters.new ≡ change_all by slots.now counters.old }
+// Takes a step at each counter that a pair touches: one more, where the pair is counted in, or one fewer.
+pub fn count_pair<F: Fn(u8) -> u8>(counters: &mut [u8; COUNTERS], slots: &[Option<u16>; 4], step: F)
+    requires { F.IsAlwaysCallable step }
+    ensures { (change : ℕ → ℕ) → Gives (F.post step) change → counters.new ≡ change_all change slots.now counters.old }
 {
     for slot in slots {
-        count_at(counters, *slot, by);
+        count_at(counters, *slot, &step);
     }
 }
 
-fn above_zero(counters: &[u8; COUNTERS], i: u16) -> bool
-    ensures { result ≡ nat_lt 0 (slice_index counters.now i) }
+// Whether the counter in a slot is above 0; a slot with none asks nothing.
+fn passes(counters: &[u8; COUNTERS], slot: Option<u16>) -> bool
+    ensures { result ≡ every (λ i. nat_lt 0 (slice_index counters.now i)) (listed (slot ∷ [])) }
 {
-    (i as usize) < COUNTERS && counters[i as usize] > 0
+    slot.is_none_or(|i| counters.get(i as usize).is_some_and(|count| *count > 0))
 }
 
 // Whether every counter listed is above 0.
 pub fn all_above(counters: &[u8; COUNTERS], slots: &[Option<u16>; 4]) -> bool
     ensures { result ≡ every (λ i. ltb 0 (slice_index counters.now i)) (listed slots.now) }
 {
-    for slot in slots {
-        let Some(i) = *slot else {
-            continue;
-        };
-        if !above_zero(counters, i) {
-            return false;
-        }
-    }
-    true
+    slots.iter().all(|slot| passes(counters, *slot))
 }

@@ -6,13 +6,13 @@ ghost use Rattle.parts.specs.Meaning.{Meaning, nothing, find as label_of, asked_
 ghost use Rattle.stores.specs.declared.pairs.Pair.{Pair};
 ghost use Rattle.stores.specs.Pairs.{pair, same_pair};
 ghost use Rattle.sieve.specs.Counted.{count_of, passing, above, questions};
-ghost use Rattle.sieve.specs.Sieved.{Sieved};
-ghost use Rattle.sieve.specs.Sieving.{sieved_proper};
+ghost use Rattle.sieve.specs.Sieved.{Shows};
+ghost use Rattle.sieve.specs.Proper.{sieved_proper};
 
-use crate::counters::{COUNTERS, Change, all_above, count_pair, touched};
+use crate::counters::{COUNTERS, all_above, count_pair, touched};
 use fields::faults::Fault;
+use parts::checks::check_labels;
 use parts::told::Told;
-use stores::labels::check_labels;
 use stores::pairs::Pair;
 use stores::store::Store;
 
@@ -26,7 +26,7 @@ pub struct Sieve<S: Store> {
 impl<S: Store> Sieve<S> {
     // A sieve over a store, which is emptied.
     pub fn over(store: S) -> Sieve<S>
-        ensures held { Sieved S.Told.shows result.below result.counters result.asked nothing }
+        ensures held { Shows S.Told.shows result nothing }
         ensures asked { result.asked ≡ 0 }
         ensures lists { S.Told.agrees result.below [] }
     {
@@ -42,7 +42,7 @@ impl<S: Store> Sieve<S> {
     // How often the sieve was asked since it was emptied, modulo 2^32.
     pub fn asked_number(&self) -> u32
         ensures value { result ≡ self.now.asked }
-        ensures counts { (m : Meaning Pair) → Sieved S.Told.shows self.now.below self.now.counters self.now.asked m → result ≡ m.asked }
+        ensures counts { (m : Meaning Pair) → Shows S.Told.shows self.now m → result ≡ m.asked }
     {
         self.asked
     }
@@ -50,9 +50,9 @@ impl<S: Store> Sieve<S> {
     // Whether every counter that a pair touches is above 0. A pair that is held always passes.
     pub fn passes(&self, left: u8, right: u8) -> Result<bool, Fault>
         ensures result { result ≡ answer (label_fault (left ∷ right ∷ [])) (above self.now.counters (pair left right)) }
-        ensures counts { (m : Meaning Pair) → Sieved S.Told.shows self.now.below self.now.counters self.now.asked m → result ≡ answer (label_fault (left ∷ right ∷ [])) (passing m.places (pair left right)) }
-        ensures few { (m : Meaning Pair) → Sieved S.Told.shows self.now.below self.now.counters self.now.asked m → (i : ℕ) → (slice_index self.now.counters i ≡ count_of i m.places) × (count_of i m.places ≤ 96) }
-        ensures holds { (m : Meaning Pair) (l : ℕ) → Sieved S.Told.shows self.now.below self.now.counters self.now.asked m → label_of same_pair m.places (pair left right) ≡ Some l → passing m.places (pair left right) ≡ true }
+        ensures counts { (m : Meaning Pair) → Shows S.Told.shows self.now m → result ≡ answer (label_fault (left ∷ right ∷ [])) (passing m.places (pair left right)) }
+        ensures few { (m : Meaning Pair) → Shows S.Told.shows self.now m → (i : ℕ) → (slice_index self.now.counters i ≡ count_of i m.places) × (count_of i m.places ≤ 96) }
+        ensures holds { (m : Meaning Pair) (l : ℕ) → Shows S.Told.shows self.now m → label_of same_pair m.places (pair left right) ≡ Some l → passing m.places (pair left right) ≡ true }
     {
         check_labels(&[left, right])?;
         let slots = touched(Pair { left, right });
@@ -61,8 +61,8 @@ impl<S: Store> Sieve<S> {
 
     // The label of a pair. The store below is asked exactly if the pair passes, and is else the same value as before.
     pub fn sift(&mut self, left: u8, right: u8) -> Result<Option<u8>, Fault>
-        ensures result { (m : Meaning Pair) → Sieved S.Told.shows self.old.below self.old.counters self.old.asked m → result ≡ answer (label_fault (left ∷ right ∷ [])) (label_of same_pair m.places (pair left right)) }
-        ensures held { (m : Meaning Pair) → Sieved S.Told.shows self.old.below self.old.counters self.old.asked m → Sieved S.Told.shows self.new.below self.new.counters self.new.asked (unless (label_fault (left ∷ right ∷ [])) m (asked_once m)) }
+        ensures result { (m : Meaning Pair) → Shows S.Told.shows self.old m → result ≡ answer (label_fault (left ∷ right ∷ [])) (label_of same_pair m.places (pair left right)) }
+        ensures held { (m : Meaning Pair) → Shows S.Told.shows self.old m → Shows S.Told.shows self.new (unless (label_fault (left ∷ right ∷ [])) m (asked_once m)) }
         ensures asked { OnOk result ((l : List Pair) → self.old.asked ≡ length l % 2 ^ 32 → self.new.asked ≡ length (l ++ pair left right ∷ []) % 2 ^ 32) }
         ensures refused { (f : Fault) → label_fault (left ∷ right ∷ []) ≡ Some f → result ≡ Err f }
         ensures kept { is_err result ≡ true → self.new ≡ self.old }
@@ -84,7 +84,7 @@ impl<S: Store> Sieve<S> {
 impl<S: Store> Told<Pair> for Sieve<S> {
     type Asked = Pair;
 
-    ghost shows = { λ s m. Sieved S.Told.shows s.below s.counters s.asked m };
+    ghost shows = { Shows S.Told.shows };
 
     ghost agrees = { λ s l. s.asked ≡ length l % 2 ^ 32 };
 
@@ -99,14 +99,14 @@ impl<S: Store> Told<Pair> for Sieve<S> {
     fn set(&mut self, place: u8, value: Pair) -> Result<(), Fault> {
         self.below.set(place, value)?;
         let slots = touched(value);
-        count_pair(&mut self.counters, &slots, Change::Up);
+        count_pair(&mut self.counters, &slots, |count| count.saturating_add(1));
         Ok(())
     }
 
     fn clear(&mut self, place: u8) -> Result<Pair, Fault> {
         let pair = self.below.clear(place)?;
         let slots = touched(pair);
-        count_pair(&mut self.counters, &slots, Change::Down);
+        count_pair(&mut self.counters, &slots, |count| count.saturating_sub(1));
         Ok(pair)
     }
 }

@@ -8,10 +8,9 @@ use Rattle.fields.specs.declared.faults.Fault.TheVariants.{Label, Full, Elsewher
 use Rattle.fields.specs.Faults.{answer, unless, when, first_fault}
 use Rattle.parts.specs.Meaning.{Meaning, find, full, label_fault, elsewhere, set_fault, taken, cleared, put, after_set}
 use Rattle.stores.specs.declared.pairs.Pair.{Pair}
-use Rattle.stores.specs.Pairs.{same_pair, pair_labels}
-use Rattle.stores.specs.Checks.{set_refusal, taken_from}
-use Rattle.stores.specs.Cells.{Within}
-use Rattle.stores.specs.Finding.{none_some, split, set_none}
+use Rattle.stores.specs.Pairs.{same_pair, pair_labels, Within}
+use Rattle.parts.specs.Checks.{set_refusal, taken_from}
+use Rattle.stores.proofs.Finding.{none_some, split, set_none}
 
 pub answer_err : {A : Type 0} (o : Option Fault) (a : A) (f : Fault) → answer o a ≡ Err f → o ≡ Some f
 answer_err None a f e = absurd (let z : ◌≡◌ {A = ℕ} 0 1 = cc in omega arith)
@@ -44,7 +43,7 @@ nowhere None e = refl
 nowhere (Some l) e = absurd (none_some (Elsewhere l) (sym e))
 
 -- set is accepted
-pub accepted : (place : ℕ) (v : Pair) (held : Option Pair) (found : Option ℕ) → set_refusal place v held found ≡ None → (place < 96) × Within v × (held ≡ None) × (found ≡ None)
+pub accepted : (place : ℕ) (v : Pair) (held : Option Pair) (found : Option ℕ) → set_refusal place (pair_labels v) held found ≡ None → (place < 96) × Within v × (held ≡ None) × (found ≡ None)
 accepted place v held found e =
     let a = first_none (label_fault (place ∷ pair_labels v)) (when (full held) (Full place) ∷ elsewhere found ∷ []) e in
     let b = first_none (when (full held) (Full place)) (elsewhere found ∷ []) a.1 in
@@ -54,10 +53,10 @@ accepted place v held found e =
 
 -- what the store read and found is what its meaning has
 pub refusal_is : (places : List (Option Pair)) (place : ℕ) (v : Pair) (held : Option Pair) (found : Option ℕ) → held ≡ get_or places place None → (Within v → found ≡ find same_pair places v)
-    → set_refusal place v held found ≡ set_fault same_pair pair_labels places place v
+    → set_refusal place (pair_labels v) held found ≡ set_fault same_pair pair_labels places place v
 refusal_is places place v held found h f = ⊎_elim
     (λ (e : label_fault (place ∷ pair_labels v) ≡ None).
-    ap (λ (o : Option Pair). set_refusal place v o found) h ∙ ap (λ (o : Option ℕ). set_refusal place v (get_or places place None) o) (f (labels_within v (label_fits place (pair_labels v) e).1)))
+    ap (λ (o : Option Pair). set_refusal place (pair_labels v) o found) h ∙ ap (λ (o : Option ℕ). set_refusal place (pair_labels v) (get_or places place None) o) (f (labels_within v (label_fits place (pair_labels v) e).1)))
     (λ (r : (g : Fault) × (label_fault (place ∷ pair_labels v) ≡ Some g)).
     ap (λ (o : Option Fault). first_fault (o ∷ when (full held) (Full place) ∷ elsewhere found ∷ [])) r.1
     ∙ sym (ap (λ (o : Option Fault). first_fault (o ∷ when (full (get_or places place None)) (Full place) ∷ elsewhere (find same_pair places v) ∷ [])) r.1))

@@ -1,1 +1,7 @@
+pub mod Finding
 pub mod Checked
+pub mod Storing
+pub mod Chaining
+pub mod Walking
+pub mod Celling
+mod Steps

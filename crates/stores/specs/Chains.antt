@@ -1,5 +1,6 @@
 -- Places chained under a key: a first place for each key, and for each place the one after it.
-use Rattle.std.specs.Prelude.{◌≡◌, ℕ, ◌+◌, ◌<◌, ◌≤◌, Bool, cond, List, [], ◌∷◌, ◌++◌, length, Some, None, count_by, Option, ◌==◌, ◌≢◌, nat_eq, slice_index_or}
+use Rattle.std.specs.Prelude.{◌≡◌, ℕ, ◌+◌, Bool, cond, List, [], ◌∷◌, length, Some, None, count_by, Option, ◌==◌, nat_eq, slice_index_or}
+use Rattle.std.specs.List.{find}
 use Rattle.parts.specs.Meaning.{at}
 
 -- following the chain from o passes exactly these places, in this order, and then ends
@@ -29,9 +30,4 @@ pub record Chained (heads nexts keys : List (Option ℕ)) : Type 0 where
 
 -- the first of some places that holds v
 abbrev pub first_holding : {V : Type 0} → (V → V → Bool) → List (Option V) → V → List ℕ → Option ℕ
-first_holding eq places v [] = None
-first_holding eq places v (p ∷ ps) = cond (at eq v (slice_index_or places p None)) (Some p) (first_holding eq places v ps)
-
--- in a list of at most 96 places that begins with another than p and has p, r stands just before p
-abbrev pub Preceded : Option ℕ → ℕ → List ℕ → Option ℕ → Type 0
-Preceded first p ps r = length ps ≤ 96 → 0 < times p ps → (first ≢ Some p) → (front : List ℕ) × (here : ℕ) × (back : List ℕ) × (ps ≡ front ++ here ∷ p ∷ back) × (r ≡ Some here)
+first_holding eq places v ps = find (λ p. at eq v (slice_index_or places p None)) ps

@@ -1,19 +1,18 @@
 // The stores that chain their places under a label of their pairs; the list store chains under the left label.
-ghost use Rattle.std.specs.Prelude.{◌≡◌, ℕ, ◌%◌, ◌^◌, ◌<◌, List, length, IfSome};
+ghost use Rattle.std.specs.Prelude.{◌≡◌, ℕ, ◌<◌, ◌≤◌, List, length, IfSome, None, slice_index_or};
 ghost use Rattle.parts.specs.Meaning.{Meaning, nothing, find as label_of};
 ghost use Rattle.stores.specs.declared.pairs.Pair.{Pair};
-ghost use Rattle.stores.specs.Pairs.{same_pair};
-ghost use Rattle.stores.specs.Held.{Held, Walked};
+ghost use Rattle.stores.specs.Pairs.{same_pair, Within};
+ghost use Rattle.stores.specs.Places.{Placed};
+ghost use Rattle.stores.specs.Stored.{Shows};
+ghost use Rattle.stores.specs.Held.{ChainLeads, Walked};
 ghost use Rattle.std.proofs.Common.{rules};
-ghost use Rattle.stores.specs.Walking.{held_proper};
 
 use crate::chains::Chains;
-use crate::labels::{check_clear, check_labels, check_set, entry_at, put_at};
+use crate::index::Index;
+use crate::indexed::IndexedStore;
 use crate::pairs::Pair;
-use crate::store::Store;
-use fields::faults::Fault;
 use parts::marks::PLACES;
-use parts::told::Told;
 
 // Which label of a pair its place is chained under.
 pub trait ChainKey: Copy {
@@ -38,85 +37,59 @@ impl ChainKey for ByLeft {
     }
 }
 
+// The chains of the places, each place under the key of its pair.
 #[derive(Drop)]
-pub struct ChainStore<K: ChainKey> {
+pub struct ChainIndex<K: ChainKey> {
     by: K,
     chains: Chains,
-    pairs: [Option<Pair>; PLACES],
-    asked: u32,
 }
+
+pub type ChainStore<K> = IndexedStore<ChainIndex<K>>;
 
 pub type ListStore = ChainStore<ByLeft>;
 
-impl<K: ChainKey> ChainStore<K> {
-    pub fn new(by: K) -> ChainStore<K>
-        ensures held { Held K.ChainKey.key result.chains.heads result.chains.nexts result.pairs result.asked nothing }
-        ensures asked { result.asked ≡ 0 }
-    {
-        ChainStore {
-            by,
-            chains: Chains::empty(),
-            pairs: [None; PLACES],
-            asked: 0,
-        }
+impl<K: ChainKey> Index for ChainIndex<K> {
+    ghost leads = { ChainLeads K.ChainKey.key };
+
+    fn empty(&mut self) {
+        self.chains = Chains::empty();
     }
 
-    // How often it was asked since it was emptied, modulo 2^32.
-    pub fn asked_number(&self) -> u32
-        ensures value { result ≡ self.now.asked }
-        ensures counts { (m : Meaning Pair) → Held K.ChainKey.key self.now.chains.heads self.now.chains.nexts self.now.pairs self.now.asked m → result ≡ m.asked }
+    fn enter(&mut self, pair: Pair, place: u8) {
+        self.chains.link(K::key_of(pair), place);
+    }
+
+    fn leave(&mut self, pair: Pair, place: u8) {
+        self.chains.unlink(K::key_of(pair), place);
+    }
+
+    // It walks the chain of the pair's key and no other.
+    fn find(&self, pairs: &[Option<Pair>; PLACES], pair: Pair) -> Option<u8>
+        ensures found { Placed pairs.now → ChainLeads K.ChainKey.key self.now pairs.now → Within pair → result ≡ label_of same_pair pairs.now pair }
+        ensures below { IfSome result (λ l. l < 96) }
+        ensures walked { Placed pairs.now → ChainLeads K.ChainKey.key self.now pairs.now → Walked K.ChainKey.key self.now.chains pairs.now pair result }
     {
-        self.asked
+        self.chains.find(K::key_of(pair), pairs, pair)
+    }
+}
+
+impl<K: ChainKey> IndexedStore<ChainIndex<K>> {
+    pub fn new(by: K) -> ChainStore<K>
+        ensures held { Shows (ChainLeads K.ChainKey.key) result nothing }
+        ensures asked { result.asked ≡ 0 }
+    {
+        IndexedStore::over(ChainIndex {
+            by,
+            chains: Chains::empty(),
+        })
     }
 
     // The label of a pair, found by walking the chain of the pair's key and no other.
     pub fn walk(&self, pair: Pair) -> Option<u8>
-        ensures walked { (m : Meaning Pair) → Held K.ChainKey.key self.now.chains.heads self.now.chains.nexts self.now.pairs self.now.asked m → Walked K.ChainKey.key self.now.chains.heads self.now.chains.nexts m.places pair result }
-        ensures found { (m : Meaning Pair) → Held K.ChainKey.key self.now.chains.heads self.now.chains.nexts self.now.pairs self.now.asked m → result ≡ label_of same_pair m.places pair }
+        ensures walked { (m : Meaning Pair) → Shows (ChainLeads K.ChainKey.key) self.now m → Walked K.ChainKey.key self.now.index.chains m.places pair result }
+        ensures found { (m : Meaning Pair) → Shows (ChainLeads K.ChainKey.key) self.now m → result ≡ label_of same_pair m.places pair }
         ensures below { IfSome result (λ l. l < 96) }
     {
-        self.chains.find(K::key_of(pair), &self.pairs, pair)
-    }
-}
-
-impl<K: ChainKey> Told<Pair> for ChainStore<K> {
-    type Asked = Pair;
-
-    ghost shows = { λ s m. Held K.ChainKey.key s.chains.heads s.chains.nexts s.pairs s.asked m };
-
-    ghost agrees = { λ s l. s.asked ≡ length l % 2 ^ 32 };
-
-    ghost proper = { λ s m h. held_proper K.ChainKey.key s.chains.heads s.chains.nexts s.pairs s.asked m h };
-
-    fn empty(&mut self) {
-        self.chains = Chains::empty();
-        self.pairs = [None; PLACES];
-        self.asked = 0;
-    }
-
-    fn set(&mut self, place: u8, value: Pair) -> Result<(), Fault> {
-        let held = entry_at(&self.pairs, place as usize);
-        let found = self.walk(value);
-        check_set(place, value, held, found)?;
-        self.chains.link(K::key_of(value), place);
-        put_at(&mut self.pairs, place as usize, Some(value));
-        Ok(())
-    }
-
-    fn clear(&mut self, place: u8) -> Result<Pair, Fault> {
-        let held = entry_at(&self.pairs, place as usize);
-        let pair = check_clear(place, held)?;
-        self.chains.unlink(K::key_of(pair), place);
-        put_at(&mut self.pairs, place as usize, None);
-        Ok(pair)
-    }
-}
-
-impl<K: ChainKey> Store for ChainStore<K> {
-    fn find(&mut self, left: u8, right: u8) -> Result<Option<u8>, Fault> {
-        check_labels(&[left, right])?;
-        let found = self.walk(Pair { left, right });
-        self.asked = self.asked.wrapping_add(1);
-        Ok(found)
+        self.index.find(&self.pairs, pair)
     }
 }

@@ -1,36 +1,17 @@
 // Places chained under a key, whatever the key is: the first place of each key, and the place after each place.
-ghost use Rattle.std.specs.Prelude.{◌≡◌, ℕ, ◌<◌, ◌≤◌, List, length, replicate, IfSome, Some, None, Option, nat_eq, slice_index_or, slice_set};
-ghost use Rattle.parts.specs.Meaning.{at as place_holds};
+ghost use Rattle.std.specs.Prelude.{◌≡◌, ℕ, ◌<◌, ◌≤◌, Bool, true, List, length, replicate, IfSome, Some, None, Option, slice_index_or, slice_set};
+ghost use Rattle.std.specs.List.{find as find_in};
 ghost use Rattle.stores.specs.Pairs.{same_pair};
-ghost use Rattle.stores.specs.Chains.{Linked, Chained, Preceded, first_holding};
+ghost use Rattle.stores.specs.Chains.{Linked, Chained, first_holding};
 
-use crate::labels::{entry_at, put_at};
 use crate::pairs::Pair;
-use fields::keys::Key;
+use parts::checks::{entry_at, put_at};
 use parts::marks::PLACES;
 
 #[derive(Clone, Copy)]
 pub struct Chains {
     heads: [Option<u8>; PLACES],
     nexts: [Option<u8>; PLACES],
-}
-
-fn leads_to(link: Option<u8>, place: u8) -> bool
-    ensures { result ≡ place_holds nat_eq place link }
-{
-    match link {
-        Some(next) => place == next,
-        None => false,
-    }
-}
-
-fn holds(pairs: &[Option<Pair>], place: u8, pair: Pair) -> bool
-    ensures { result ≡ place_holds same_pair pair (slice_index_or pairs.now place None) }
-{
-    match entry_at(pairs, place as usize) {
-        Some(held) => pair.same(&held),
-        None => false,
-    }
 }
 
 impl Chains {
@@ -61,31 +42,17 @@ impl Chains {
     {
         let first = entry_at(&self.heads, key as usize);
         let after = entry_at(&self.nexts, place as usize);
-        if leads_to(first, place) {
+        if first == Some(place) {
             put_at(&mut self.heads, key as usize, after);
             return;
         }
-        if let Some(prior) = self.place_before(first, place) {
+        let prior = self.first_passing(
+            first,
+            |here| entry_at(&self.nexts, here as usize) == Some(place),
+        );
+        if let Some(prior) = prior {
             put_at(&mut self.nexts, prior as usize, after);
         }
-    }
-
-    // The place just before another, in the chain that begins with `first`.
-    fn place_before(&self, first: Option<u8>, place: u8) -> Option<u8>
-        ensures { (ps : List ℕ) → Linked self.now.nexts first ps → Preceded first place ps result }
-    {
-        let mut link = first;
-        for _turn in 0..PLACES {
-            let Some(here) = link else {
-                return None;
-            };
-            let next = entry_at(&self.nexts, here as usize);
-            if leads_to(next, place) {
-                return Some(here);
-            }
-            link = next;
-        }
-        None
     }
 
     // The place of the key's chain that holds a pair: no other chain is walked.
@@ -93,16 +60,18 @@ impl Chains {
         ensures walked { (ps : List ℕ) → Linked self.now.nexts (slice_index_or self.now.heads key None) ps → length ps ≤ 96 → result ≡ first_holding same_pair pairs.now pair ps }
         ensures below { IfSome result (λ l. l < 96) }
     {
-        let mut link = entry_at(&self.heads, key as usize);
-        for _turn in 0..PLACES {
-            let Some(place) = link else {
-                return None;
-            };
-            if holds(pairs, place, pair) {
-                return Some(place);
-            }
-            link = entry_at(&self.nexts, place as usize);
-        }
-        None
+        let first = entry_at(&self.heads, key as usize);
+        self.first_passing(first, |place| entry_at(pairs, place as usize) == Some(pair))
+    }
+
+    // The first place that passes a test, of the chain that begins with `first`.
+    fn first_passing<F: Fn(u8) -> bool>(&self, first: Option<u8>, test: F) -> Option<u8>
+        requires { F.IsAlwaysCallable test }
+        ensures found { (ps : List ℕ) (t : ℕ → Bool) → Linked self.now.nexts first ps → length ps ≤ 96 → ((p : ℕ) (r : Bool) → F.post test p r → r ≡ t p) → result ≡ find_in t ps }
+        ensures passes { IfSome result (λ p. F.post test p true) }
+    {
+        std::iter::successors(first, |place| entry_at(&self.nexts, *place as usize))
+            .take(PLACES)
+            .find(|place| test(*place))
     }
 }

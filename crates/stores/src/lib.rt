@@ -3,6 +3,7 @@
 pub mod chain_store;
 mod chains;
 pub mod grid;
-pub mod labels;
+pub mod index;
+pub mod indexed;
 pub mod pairs;
 pub mod store;

@@ -1,5 +1,5 @@
 // A combination: the label that a node has on its left and the label that it has on its right.
-ghost use Rattle.std.specs.Prelude.{◌≡◌};
+ghost use Rattle.std.specs.Prelude.{◌≡◌, refl};
 ghost use Rattle.stores.specs.Pairs.{same_pair, pair_labels, code};
 ghost use Rattle.stores.specs.Alike.{pair_decides};
 
@@ -26,9 +26,5 @@ impl Key for Pair {
 
     ghost labels = { pair_labels };
 
-    ghost decides = { λ a b. pair_decides a b };
-
-    fn same(&self, other: &Pair) -> bool {
-        self.left == other.left && self.right == other.right
-    }
+    ghost laws = { record { is_same = λ _ _. refl; decides = pair_decides } };
 }

@@ -1,12 +1,11 @@
 // Why a call would be refused: the first fault in the order of checking.
 ghost use Rattle.std.specs.Prelude.{◌≡◌};
-ghost use Rattle.fields.specs.Faults.{first_fault};
+ghost use Rattle.fields.specs.Faults.{first_fault, answer};
 ghost use Rattle.filters.specs.declared.calls.Call.TheVariants.{Add, Inspect};
 ghost use Rattle.filters.specs.Standing.{refusal, search_checks};
 ghost use Rattle.filter_table.specs.Tables.{held};
 
-use crate::lists::twin_of;
-use crate::shifts::CAPACITY;
+use crate::lists::check_twin;
 use crate::table::FilterTable;
 use fields::faults::Fault;
 use fields::orders::FIELDS;
@@ -20,17 +19,17 @@ pub const MOST_LISTED: u8 = 16;
 // How many places there are to inspect: the fields, and a node fewer than that.
 pub const PLACES: usize = FIELDS + FIELDS - 1;
 
-// Why a search would be refused.
-pub fn search_fault(most: u8, room: usize) -> Option<Fault>
-    ensures { result ≡ first_fault (search_checks most room) }
+// Refuses what a search would be refused for.
+pub fn check_search(most: u8, room: usize) -> Result<(), Fault>
+    ensures { result ≡ answer (first_fault (search_checks most room)) tt }
 {
     if most > MOST_LISTED {
-        return Some(Fault::Limit(most));
+        return Err(Fault::Limit(most));
     }
     if room < most as usize {
-        return Some(Fault::Answers(room as u8));
+        return Err(Fault::Answers(room as u8));
     }
-    None
+    Ok(())
 }
 
 impl FilterTable {
@@ -38,46 +37,46 @@ impl FilterTable {
     pub fn refusal(&self, call: &Call) -> Option<Fault>
         ensures { result ≡ refusal (held self.now) call.now }
     {
-        match *call {
-            Call::Add(row) => self.add_fault(&row),
-            Call::Remove(identifier) => self.remove_fault(identifier),
-            Call::Inspect(identifier, place) => self.inspect_fault(identifier, place),
-            Call::Search(_, most, room) => search_fault(most, room),
-        }
+        self.check(call).err()
     }
 
-    // Why an add would be refused.
-    pub fn add_fault(&self, row: &FilterRow) -> Option<Fault>
-        ensures { result ≡ refusal (held self.now) (Add row.now) }
+    fn check(&self, call: &Call) -> Result<(), Fault>
+        ensures { result ≡ answer (refusal (held self.now) call.now) tt }
     {
-        if let Err(fault) = Filter::form(*row) {
-            return Some(fault);
+        match *call {
+            Call::Add(row) => self.check_add(&row),
+            Call::Remove(identifier) => self.check_remove(identifier),
+            Call::Inspect(identifier, place) => self.check_inspect(identifier, place),
+            Call::Search(_, most, room) => check_search(most, room),
         }
-        if self.position_of(row.identifier).is_some() {
-            return Some(Fault::Stands(row.identifier));
-        }
-        if let Some(fault) = twin_of(&self.rows[0..self.count], row) {
-            return Some(fault);
-        }
-        if self.count >= CAPACITY {
-            return Some(Fault::Crowded);
-        }
-        None
     }
 
-    // Why an inspection would be refused.
-    pub fn inspect_fault(&self, identifier: u16, place: u8) -> Option<Fault>
-        ensures { result ≡ refusal (held self.now) (Inspect identifier place) }
+    // Refuses what an add would be refused for.
+    pub fn check_add(&self, row: &FilterRow) -> Result<(), Fault>
+        ensures { result ≡ answer (refusal (held self.now) (Add row.now)) tt }
+    {
+        Filter::form(*row)?;
+        if self.position_of(row.identifier).is_some() {
+            return Err(Fault::Stands(row.identifier));
+        }
+        check_twin(self.rows.as_slice(), row)?;
+        if self.rows.is_full() {
+            return Err(Fault::Crowded);
+        }
+        Ok(())
+    }
+
+    // Refuses what an inspection would be refused for.
+    pub fn check_inspect(&self, identifier: u16, place: u8) -> Result<(), Fault>
+        ensures { result ≡ answer (refusal (held self.now) (Inspect identifier place)) tt }
     {
         if identifier == 0 {
-            return Some(Fault::Identifier);
+            return Err(Fault::Identifier);
         }
         if place < 1 || place as usize > PLACES {
-            return Some(Fault::Place(place));
+            return Err(Fault::Place(place));
         }
-        if self.position_of(identifier).is_none() {
-            return Some(Fault::Unknown(identifier));
-        }
-        None
+        self.standing_position(identifier)?;
+        Ok(())
     }
 }

@@ -1,5 +1,5 @@
 // How full the filter table is.
-ghost use Rattle.std.specs.Prelude.{◌≡◌, length};
+ghost use Rattle.std.specs.Prelude.{◌≡◌, ◌≤◌, length};
 ghost use Rattle.filter_table.specs.Tables.{held};
 
 use crate::table::FilterTable;
@@ -7,8 +7,9 @@ use crate::table::FilterTable;
 impl FilterTable {
     // How many filters stand.
     pub fn count(&self) -> usize
-        ensures { result ≡ length (held self.now) }
+        ensures value { result ≡ length (held self.now) }
+        ensures fits { result ≤ 96 }
     {
-        self.count
+        self.rows.len()
     }
 }

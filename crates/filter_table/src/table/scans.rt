@@ -9,7 +9,7 @@ ghost use Rattle.filter_table.specs.Tables.{held};
 
 use crate::lists::{best_of, list_of};
 use crate::table::FilterTable;
-use crate::table::checks::search_fault;
+use crate::table::checks::check_search;
 use fields::faults::Fault;
 use filters::calls::{Best, Scanned};
 use filters::rows::Header;
@@ -20,11 +20,9 @@ impl FilterTable {
         ensures result { result ≡ answer (refusal (held self.now) (Search header.now most (length list.old))) (scan_answer (held self.now) header.now most) }
         ensures list { list.new ≡ unless (refusal (held self.now) (Search header.now most (length list.old))) list.old (written (listed (held self.now) header.now most) list.old) }
     {
-        if let Some(fault) = search_fault(most, list.len()) {
-            return Err(fault);
-        }
+        check_search(most, list.len())?;
         let best = self.best(header);
-        let listed = list_of(&self.rows[0..self.count], header, most as usize, list);
+        let listed = list_of(self.rows.as_slice(), header, most as usize, list);
         Ok(Scanned { best, listed })
     }
 
@@ -32,7 +30,7 @@ impl FilterTable {
     pub fn best(&self, header: &Header) -> Option<Best>
         ensures { result ≡ option_map told (best (held self.now) header.now) }
     {
-        let row = best_of(&self.rows[0..self.count], header)?;
+        let row = best_of(self.rows.as_slice(), header)?;
         Some(Best {
             identifier: row.identifier,
             flow: row.flow,

@@ -1,16 +1,14 @@
-use Rattle.std.proofs.Common.{sym, arith}
+use Rattle.std.proofs.Common.{ℕ, length, Option, ap, ◌∙◌, rules, tests}
+use Rattle.std.specs.Option.{unwrap_or}
+use Rattle.std.proofs.lemmas.Iterator.{YieldsList-from_slice}
+use Rattle.std.proofs.lemmas.Iterator.Search.{position_from_yields_List}
 use Rattle.filters.specs.Filters.{ranks_ahead}
-use Rattle.filter_table.proofs.Places.{before_here, before_more, before_all}
+use Rattle.filter_table.proofs.Places.{place_is, place_or_length}
 use Rattle.filter_table.proofs.lists.rank_place.Goals as goal
 
-pub loop-i-init : goal.loop-i-init
-loop-i-init c = omega arith
-
-pub returns-then-ranks_ahead : goal.returns-then-ranks_ahead
-returns-then-ranks_ahead c = before_here (ranks_ahead c.args.row.now) c.args.rows.now c.loop-i.i _ c.loop-i-test.true c.loop-i.invariant (sym c.if-ranks_ahead.ensures)
-
-pub loop-i-preserved : goal.loop-i-preserved
-loop-i-preserved c = before_more (ranks_ahead c.args.row.now) c.args.rows.now c.loop-i.i _ c.loop-i-test.true c.loop-i.invariant (sym c.if-ranks_ahead.ensures)
-
 pub returns : goal.returns
-returns c = before_all (ranks_ahead c.args.row.now) c.args.rows.now c.loop-i.i c.loop-i.auto.i-end c.loop-i-test.false c.loop-i.invariant
+returns c =
+    let xs = c.args.rows.now in
+    let p = ranks_ahead c.args.row.now in
+    let found = position_from_yields_List p _ _ c.position.result c.position.ensures.ran (YieldsList-from_slice _ c.iter.ensures.rest) (λ x b q k. search (rules, tests)) ∙ place_is p xs in
+    c.unwrap_or.ensures ∙ ap (λ (r : Option ℕ). unwrap_or r (length xs)) found ∙ place_or_length p xs

@@ -1,19 +1,20 @@
-use Rattle.std.proofs.Common.{◌&&◌, Option, sym, ap, ◌∙◌}
+use Rattle.std.proofs.Common.{◌≡◌, Bool, false, ◌&&◌, Ok, Err, Option, Result, MatchResult, sym, ap, ◌∙◌, rules, tests}
 use Rattle.fields.specs.declared.faults.Fault.{Fault}
+use Rattle.fields.specs.Faults.{answer, answer_by}
+use Rattle.filters.specs.declared.filter.Filter.{Filter}
 use Rattle.filters.specs.declared.rows.FilterRow.{FilterRow}
-use Rattle.filters.specs.Filters.{matches, row_fault, accepted}
+use Rattle.filters.specs.declared.rows.Header.{Header}
+use Rattle.filters.specs.Filters.{matches, row_fault, lawful, accepted}
 use Rattle.filters.specs.Formed.{plain}
 use Rattle.filters.proofs.Checks.{formed_ok, formed_err}
 use Rattle.filter_table.proofs.lists.row_matches.Goals as goal
 
-pub returns-in_default : goal.returns-in_default
-returns-in_default c =
-    let f = c.args.row.now in
-    let e = formed_err plain (row_fault f) c.in_default.field-0 f c.in_default.ensures in
-    sym (ap (λ (o : Option Fault). accepted o && matches f c.args.header.now) e)
+-- b is what the test of the formed filter answers
+matched : (r : Result Filter Fault) (f : FilterRow) (h : Header) (b : Bool) (Tells : Filter → Type 0) → answer_by plain r ≡ answer (row_fault f) f → MatchResult r Tells (λ _. b ≡ false) → ((g : Filter) → Tells g → b ≡ matches (plain g) h) → b ≡ (lawful f && matches f h)
+matched (Ok g) f h b Tells e m tells =
+    let p = formed_ok plain (row_fault f) g f e in
+    tells g m ∙ ap (λ (g : FilterRow). matches g h) p.1 ∙ sym (ap (λ (o : Option Fault). accepted o && matches f h) p.0)
+matched (Err d) f h b Tells e m tells = m ∙ sym (ap (λ (o : Option Fault). accepted o && matches f h) (formed_err plain (row_fault f) d f e))
 
 pub returns : goal.returns
-returns c =
-    let f = c.args.row.now in
-    let p = formed_ok plain (row_fault f) c.in-Ok.filter f c.in-Ok.ensures in
-    c.matches.ensures ∙ ap (λ (g : FilterRow). matches g c.args.header.now) p.1 ∙ sym (ap (λ (o : Option Fault). accepted o && matches f c.args.header.now) p.0)
+returns c = matched c.form.result c.args.row.now c.args.header.now _ _ c.form.ensures c.is_ok_and.ensures (λ g t. search (rules, tests))

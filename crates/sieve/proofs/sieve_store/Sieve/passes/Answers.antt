@@ -5,12 +5,12 @@ use Rattle.fields.specs.Faults.{answer}
 use Rattle.parts.specs.Meaning.{label_fault}
 use Rattle.stores.specs.Pairs.{pair, same_pair}
 use Rattle.stores.specs.Alike.{pair_decides}
-use Rattle.stores.specs.Finding.{find_some}
+use Rattle.stores.proofs.Finding.{find_some}
 use Rattle.stores.proofs.Checked.{answer_ok, answer_err}
 use Rattle.sieve.specs.Touched.{every, listed}
 use Rattle.sieve.specs.Counted.{passing, above}
-use Rattle.sieve.specs.Counting.{above_is, held_passes, few}
-use Rattle.sieve.specs.Sieving.{sieved_size}
+use Rattle.sieve.proofs.Counting.{above_is, held_passes, few}
+use Rattle.sieve.proofs.Sieving.{sieved_size}
 use Rattle.sieve.proofs.sieve_store.Sieve.passes.Goals as goal
 
 pub returns-in_err-check_labels : goal.returns-in_err-check_labels

@@ -8,8 +8,8 @@ use Rattle.stores.specs.Pairs.{pair, same_pair}
 use Rattle.stores.proofs.Checked.{answer_ok, accepted_find, asked_more, not_refused}
 use Rattle.sieve.specs.Counted.{above}
 use Rattle.sieve.specs.Sieved.{Sieved}
-use Rattle.sieve.specs.Counting.{above_is, spared_absent}
-use Rattle.sieve.specs.Sieving.{answer_value, asked_below, not_asked, sieved_asked}
+use Rattle.sieve.proofs.Counting.{above_is, spared_absent}
+use Rattle.sieve.proofs.Sieving.{answer_value, asked_below, not_asked, sieved_asked}
 use Rattle.sieve.proofs.sieve_store.Sieve.sift.Goals as goal
 
 -- the pair does not pass: the store below is spared

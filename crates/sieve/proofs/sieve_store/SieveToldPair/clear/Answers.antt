@@ -1,14 +1,13 @@
-use Rattle.std.proofs.Common.{◌≡◌, ℕ, false, List, get_or, None, Err, Option, sym, refl, ap, ◌∙◌, subst}
+use Rattle.std.proofs.Common.{◌≡◌, ℕ, false, List, get_or, None, Err, Option, sym, refl, ap, ◌∙◌, subst, rules}
 use Rattle.std.proofs.lemmas.Result.{err_from_is_err_and}
 use Rattle.std.proofs.lemmas.Bool.{both_ways}
 use Rattle.parts.specs.Meaning.{Meaning, meaning, put}
 use Rattle.stores.specs.declared.pairs.Pair.{Pair}
 use Rattle.stores.proofs.Checked.{taken_ok, clear_kept}
-use Rattle.sieve.specs.declared.counters.Change.TheVariants.{Down}
 use Rattle.sieve.specs.Touched.{slots}
-use Rattle.sieve.specs.Counted.{change_all}
+use Rattle.sieve.specs.Counted.{one_fewer, change_all}
 use Rattle.sieve.specs.Sieved.{Sieved}
-use Rattle.sieve.specs.Sieving.{sieved_size, sieved_clear}
+use Rattle.sieve.proofs.Sieving.{sieved_size, sieved_clear}
 use Rattle.sieve.proofs.sieve_store.SieveToldPair.clear.Goals as goal
 
 pub returns-in_err-pair : goal.returns-in_err-pair
@@ -35,7 +34,7 @@ returns g c =
     let v = c.in_ok-pair.pair in
     let f = c.in_ok-pair.ensures in
     let b = c.clear.new.self in
-    let counters-is : c.count_pair.new.counters ≡ change_all Down (slots v) s.counters = c.count_pair.ensures ∙ ap (λ (os : List (Option ℕ)). change_all Down os s.counters) c.touched-slots.ensures.slots in
+    let counters-is : c.count_pair.new.counters ≡ change_all one_fewer (slots v) s.counters = c.count_pair.ensures one_fewer (λ n r b h. search rules) ∙ ap (λ (os : List (Option ℕ)). change_all one_fewer os s.counters) c.touched-slots.ensures.slots in
     record {
       result = λ m h. f.result (meaning m.places h.asked_below) h.holds;
       held = λ m h.

@@ -1,5 +1,5 @@
 use Rattle.std.proofs.Common.{refl}
-use Rattle.sieve.specs.Sieving.{nothing_sieved}
+use Rattle.sieve.proofs.Sieving.{nothing_sieved}
 use Rattle.sieve.proofs.sieve_store.SieveToldPair.empty.Goals as goal
 
 pub returns : goal.returns

@@ -1,14 +1,13 @@
-use Rattle.std.proofs.Common.{◌≡◌, ℕ, false, List, get_or, Some, None, Option, sym, refl, ap, ◌∙◌, subst}
+use Rattle.std.proofs.Common.{◌≡◌, ℕ, false, List, get_or, Some, None, Option, sym, refl, ap, ◌∙◌, subst, rules}
 use Rattle.std.proofs.lemmas.Bool.{both_ways}
 use Rattle.parts.specs.Meaning.{Meaning, meaning, find, set_fault, put}
 use Rattle.stores.specs.declared.pairs.Pair.{Pair}
 use Rattle.stores.specs.Pairs.{same_pair, pair_labels}
 use Rattle.stores.proofs.Checked.{answer_ok, accepted, set_done}
-use Rattle.sieve.specs.declared.counters.Change.TheVariants.{Up}
 use Rattle.sieve.specs.Touched.{slots}
-use Rattle.sieve.specs.Counted.{change_all}
+use Rattle.sieve.specs.Counted.{one_more, change_all}
 use Rattle.sieve.specs.Sieved.{Sieved}
-use Rattle.sieve.specs.Sieving.{sieved_set}
+use Rattle.sieve.proofs.Sieving.{sieved_set}
 use Rattle.sieve.proofs.sieve_store.SieveToldPair.set.Goals as goal
 
 pub returns : goal.returns
@@ -19,7 +18,7 @@ returns g c =
     let v = c.args.value in
     let f = c.in_ok-set.ensures in
     let b = c.set.new.self in
-    let counters-is : c.count_pair.new.counters ≡ change_all Up (slots v) s.counters = c.count_pair.ensures ∙ ap (λ (os : List (Option ℕ)). change_all Up os s.counters) c.touched-slots.ensures.slots in
+    let counters-is : c.count_pair.new.counters ≡ change_all one_more (slots v) s.counters = c.count_pair.ensures one_more (λ n r b h. search rules) ∙ ap (λ (os : List (Option ℕ)). change_all one_more os s.counters) c.touched-slots.ensures.slots in
     record {
       result = λ m h. f.result (meaning m.places h.asked_below) h.holds;
       held = λ m h.

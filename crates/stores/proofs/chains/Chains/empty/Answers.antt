@@ -1,4 +1,4 @@
-use Rattle.stores.specs.Chaining.{nothing_chained}
+use Rattle.stores.proofs.Chaining.{nothing_chained}
 use Rattle.stores.proofs.chains.Chains.empty.Goals as goal
 
 pub returns : goal.returns

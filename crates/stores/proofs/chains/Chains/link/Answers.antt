@@ -1,6 +1,6 @@
 use Rattle.std.proofs.Common.{◌≡◌, ℕ, List, get_or, set, Some, None, Option, sym, ap, ◌∙◌, subst}
 use Rattle.stores.specs.Chains.{Chained}
-use Rattle.stores.specs.Chaining.{linked}
+use Rattle.stores.proofs.Chaining.{linked}
 use Rattle.stores.proofs.chains.Chains.link.Goals as goal
 
 pub returns : goal.returns

@@ -1,36 +1,34 @@
-use Rattle.std.proofs.Common.{◌≡◌, ℕ, eqb, List, ◌∷◌, ◌++◌, get_or, set, Some, None, Option, sym, ap, ◌∙◌, subst}
-use Rattle.std.proofs.lemmas.Bool.{both_ways}
-use Rattle.std.proofs.lemmas.Bool.Decides.{Decides-eqb}
+use Rattle.std.proofs.Common.{◌≡◌, ℕ, ◌≤◌, List, length, get_or, set, Some, None, Option, nat_eq, sym, ap, ◌∙◌, subst, rules}
+use Rattle.std.specs.List.{find as find_in}
+use Rattle.parts.specs.Meaning.{at}
 use Rattle.stores.specs.Chains.{Linked, Chained}
-use Rattle.stores.specs.Finding.{at_held, held_at, none_some}
-use Rattle.stores.specs.Chaining.{unlinked_first, unlinked_after, chain_short, held_once}
+use Rattle.stores.proofs.Finding.{none_some}
+use Rattle.stores.proofs.Chaining.{unlinked_first, unlinked_later}
 use Rattle.stores.proofs.chains.Chains.unlink.Goals as goal
 
-pub returns-then-leads_to : goal.returns-then-leads_to
-returns-then-leads_to c keys h held =
+pub returns-then-eq : goal.returns-then-eq
+returns-then-eq c keys h held =
     let hs = c.args.self.now.heads in
     let ns = c.args.self.now.nexts in
     let k = c.args.key in
     let p = c.args.place in
-    let first : get_or hs k None ≡ Some p = sym c.entry_at-first.ensures ∙ at_held eqb Decides-eqb p c.entry_at-first.result (sym c.if-leads_to.ensures) in
+    let first : get_or hs k None ≡ Some p = search rules in
     subst (λ (xs : List (Option ℕ)). Chained xs ns (set keys p None)) (sym (c.put_at.ensures ∙ ap (λ (o : Option ℕ). set hs k o) c.entry_at-after.ensures)) (unlinked_first hs ns keys k p h held first)
 
--- what the walk finds, where the place is not the first of its chain
 pub returns-in-Some : goal.returns-in-Some
 returns-in-Some c keys h held =
     let hs = c.args.self.now.heads in
     let ns = c.args.self.now.nexts in
     let k = c.args.key in
     let p = c.args.place in
-    let d = h.chain k in
-    let l = subst (λ (o : Option ℕ). Linked ns o d.order) (sym c.entry_at-first.ensures) d.linked in
-    let r = c.place_before.ensures d.order l (chain_short hs ns keys k h.keys_size d) (held_once hs ns keys k p d held)
-    (λ e. both_ways c.leads_to.result c.if-leads_to.false (c.leads_to.ensures ∙ held_at eqb Decides-eqb p c.entry_at-first.result e)) in
-    let s : Some c.in-Some.prior ≡ Some r.1 = sym c.in-Some.is ∙ r.4 in
-    let t : r.1 ≡ c.in-Some.prior = cc in
-    let e : d.order ≡ r.0 ++ c.in-Some.prior ∷ p ∷ r.2 = r.3 ∙ ap (λ (n : ℕ). r.0 ++ n ∷ p ∷ r.2) t in
+    let other : (get_or hs k None ≡ Some p → ⊥) = λ e. search rules in
+    let found : (ps : List ℕ) → Linked ns (get_or hs k None) ps → length ps ≤ 96 → c.first_passing-prior.result ≡ find_in (λ n. at nat_eq p (get_or ns n None)) ps
+    = λ ps l few. c.first_passing-prior.ensures.found ps (λ n. at nat_eq p (get_or ns n None)) (subst (λ (o : Option ℕ). Linked ns o ps) (sym c.entry_at-first.ensures) l) few (λ n b w. search rules) in
+    let r = unlinked_later hs ns keys k p h held other c.first_passing-prior.result found in
+    let s : Some c.in-Some.prior ≡ Some r.0 = sym c.in-Some.is ∙ r.1 in
+    let t : r.0 ≡ c.in-Some.prior = cc in
     subst (λ (xs : List (Option ℕ)). Chained hs xs (set keys p None)) (sym (c.put_at-in-Some.ensures ∙ ap (λ (o : Option ℕ). set ns c.in-Some.prior o) c.entry_at-after.ensures))
-    (unlinked_after hs ns keys k p h r.0 c.in-Some.prior r.2 held e)
+    (subst (λ (n : ℕ). Chained hs (set ns n (get_or ns p None)) (set keys p None)) t r.2)
 
 pub returns-in_default : goal.returns-in_default
 returns-in_default c keys h held =
@@ -38,8 +36,8 @@ returns-in_default c keys h held =
     let ns = c.args.self.now.nexts in
     let k = c.args.key in
     let p = c.args.place in
-    let d = h.chain k in
-    let l = subst (λ (o : Option ℕ). Linked ns o d.order) (sym c.entry_at-first.ensures) d.linked in
-    let r = c.place_before.ensures d.order l (chain_short hs ns keys k h.keys_size d) (held_once hs ns keys k p d held)
-    (λ e. both_ways c.leads_to.result c.if-leads_to.false (c.leads_to.ensures ∙ held_at eqb Decides-eqb p c.entry_at-first.result e)) in
-    absurd (none_some r.1 (sym c.in_default.is ∙ r.4))
+    let other : (get_or hs k None ≡ Some p → ⊥) = λ e. search rules in
+    let found : (ps : List ℕ) → Linked ns (get_or hs k None) ps → length ps ≤ 96 → c.first_passing-prior.result ≡ find_in (λ n. at nat_eq p (get_or ns n None)) ps
+    = λ ps l few. c.first_passing-prior.ensures.found ps (λ n. at nat_eq p (get_or ns n None)) (subst (λ (o : Option ℕ). Linked ns o ps) (sym c.entry_at-first.ensures) l) few (λ n b w. search rules) in
+    let r = unlinked_later hs ns keys k p h held other c.first_passing-prior.result found in
+    absurd (none_some r.0 (sym c.in_default.is ∙ r.1))

@@ -1,6 +1,0 @@
-use Rattle.std.proofs.Common.{refl}
-use Rattle.stores.specs.Celling.{nothing_celled}
-use Rattle.stores.proofs.grid.GridStore.new.Goals as goal
-
-pub returns : goal.returns
-returns c = record { held = nothing_celled; asked = refl }
