@@ -53,7 +53,7 @@ module _ {V : Type 0} (eq : V → V → Bool) (law : (a b : V) → Decides (eq a
   all_held es h = all_unmap in_columns (λ p. here eq (value p.filter) (get_or slots (get_or p.labels j 0) None) ≡ true) es (all_unmap (in_field value j) (λ s. here eq s.key (get_or slots s.label None) ≡ true) (map in_columns es) h.holds)
 
 module _ {A B C D E F S : Type 0} {a : A → Meaning Prefix → Type 0} {b : B → Meaning Prefix → Type 0} {c : C → Meaning PortRange → Type 0} {d : D → Meaning PortRange → Type 0} {e : E → Meaning Protocol → Type 0} {f : F → Meaning FlagMask → Type 0} {s : S → Meaning Pair → Type 0}
-    (order : List ℕ) (columns : Columns A B C D E F) (nodes : List (Board Pair S Pair)) (spare : Board Pair S Pair) (es : List Entry) (asked : ℕ → ℕ) (ns : List ℕ) (n : ℕ)
+    (order : List ℕ) (columns : Columns A B C D E F) (nodes : List (Board Pair S)) (spare : Board Pair S) (es : List Entry) (asked : ℕ → ℕ) (ns : List ℕ) (n : ℕ)
     (stand : Stand a b c d e f columns (map in_columns es) asked) (net : Nodes s nodes (map (in_network order) es) ns n) where
   -- what the tables say of an entry
   pub record Good (x : Entry) : Type 0 where

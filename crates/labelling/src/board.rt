@@ -1,11 +1,11 @@
 // A board: the labels of a field or of a node, beside the engine or store that is told of them.
-// The part is told only when a count leaves or reaches 0.
 ghost use Rattle.std.specs.Prelude.{◌≡◌, ℕ, ◌<◌, Bool, true, false, List, [], ◌∷◌, ◌++◌, length, is_err, IfOk, Some, None, ◌==◌};
 ghost use Rattle.labels.specs.Labels.{occurrences, standing, Standing};
 ghost use Rattle.parts.specs.Asked.{Succeeds};
 ghost use Rattle.parts.specs.Meaning.{label_fault};
 ghost use Rattle.labelling.specs.Boards.{Stands};
 
+use crate::told::{emptied, enter, leave};
 use fields::faults::Fault;
 use fields::keys::Key;
 use labels::table::{Acquired, LabelTable};
@@ -19,14 +19,13 @@ pub struct Board<V, P> {
 
 impl<V: Key, P: Told<V>> Board<V, P> {
     // A board with every label free, over the part emptied.
-    pub fn make(mut part: P) -> Board<V, P>
+    pub fn make(part: P) -> Board<V, P>
         ensures stands { Stands V.Key.eq P.Told.shows result.table.slots result.part [] 0 }
         ensures asked { P.Told.agrees result.part [] }
     {
-        part.empty();
         Board {
             table: LabelTable::empty(),
-            part,
+            part: emptied(part),
         }
     }
 
@@ -37,11 +36,7 @@ impl<V: Key, P: Told<V>> Board<V, P> {
         ensures kept { is_err result ≡ true → self.new.part ≡ self.old.part }
         ensures asked { (l : List P.Asked) → P.Told.agrees self.old.part l → P.Told.agrees self.new.part l }
     {
-        let acquired = self.table.acquire(key).ok_or(Fault::Crowded)?;
-        if acquired.new {
-            self.part.set(acquired.label, key)?;
-        }
-        Ok(acquired)
+        enter(&mut self.table, &mut self.part, key)
     }
 
     // Gives a label back, for one filter that has it, and says whether it was freed; then the part is told.
@@ -51,10 +46,6 @@ impl<V: Key, P: Told<V>> Board<V, P> {
         ensures kept { is_err result ≡ true → self.new.part ≡ self.old.part }
         ensures asked { (l : List P.Asked) → P.Told.agrees self.old.part l → P.Told.agrees self.new.part l }
     {
-        let released = self.table.release(label).ok_or(Fault::Vacant(label))?;
-        if released.freed {
-            self.part.clear(label)?;
-        }
-        Ok(released.freed)
+        leave(&mut self.table, &mut self.part, label)
     }
 }

@@ -2,3 +2,4 @@
 
 pub mod board;
 pub mod found;
+pub mod told;

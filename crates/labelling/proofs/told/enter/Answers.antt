@@ -2,12 +2,12 @@ use Rattle.std.proofs.Common.{◌≡◌, Bool, ◌∷◌, ◌++◌, Some, subst,
 use Rattle.labels.specs.Labels.{standing, keys, Keyed, Came}
 use Rattle.parts.specs.Meaning.{meaning}
 use Rattle.labelling.proofs.Tells.{untold, told_came, no_fault, never_err}
-use Rattle.labelling.proofs.board.Board.enter.Goals as goal
+use Rattle.labelling.proofs.told.enter.Goals as goal
 
 pub returns-in_err-set-clause-entered : goal.returns-in_err-set-clause-entered
 returns-in_err-set-clause-entered g c before after n s few ok =
     let eq = g.V.Key.eq in
-    let slots = c.args.self.now.table.slots in
+    let slots = c.args.table.now.slots in
     let slots' = c.acquire.new.self.slots in
     let a = c.in_ok-acquired.acquired in
     let got : c.acquire.result ≡ Some a = search rules in
@@ -18,7 +18,7 @@ returns-in_err-set-clause-entered g c before after n s few ok =
 pub returns-in_ok-set-clause-entered : goal.returns-in_ok-set-clause-entered
 returns-in_ok-set-clause-entered g c before after n s few ok =
     let eq = g.V.Key.eq in
-    let slots = c.args.self.now.table.slots in
+    let slots = c.args.table.now.slots in
     let slots' = c.acquire.new.self.slots in
     let a = c.in_ok-acquired.acquired in
     let got : c.acquire.result ≡ Some a = search rules in
@@ -36,7 +36,7 @@ returns-in_ok-set-clause-entered g c before after n s few ok =
 pub returns-else-acquired-clause-entered : goal.returns-else-acquired-clause-entered
 returns-else-acquired-clause-entered g c before after n s few ok =
     let eq = g.V.Key.eq in
-    let slots = c.args.self.now.table.slots in
+    let slots = c.args.table.now.slots in
     let slots' = c.acquire.new.self.slots in
     let a = c.in_ok-acquired.acquired in
     let got : c.acquire.result ≡ Some a = search rules in
@@ -45,7 +45,7 @@ returns-else-acquired-clause-entered g c before after n s few ok =
     let labelled = rw got at c.acquire.ensures.labelled in (
       k.0,
       fresh (before ++ after) s.labelled,
-      untold eq g.P.Told.shows slots slots' c.args.self.now.part (before ++ after) (before ++ standing c.args.key a.label ∷ after) n s
+      untold eq g.P.Told.shows slots slots' c.args.part.now (before ++ after) (before ++ standing c.args.key a.label ∷ after) n s
           (labelled before after s.labelled)
           (subst (λ (b : Bool). Keyed eq (keys slots) (keys slots') c.args.key a.label b) c.if-acquired.false k.1),
     )
