@@ -62,7 +62,7 @@ mod tests {
     #[test]
     fn scan_fills(rt: HostRuntime) -> Result<(), Fail> {
         let mut rows = [ProtocolRow::Any; 97];
-        fills_scan(&rt, RowTable::checked(&mut rows))
+        fills_scan(&rt, RowTable::form(&mut rows)?)
     }
 
     // Nested ranges, all of them satisfied by the number in their middle.
@@ -91,7 +91,7 @@ mod tests {
     #[test]
     fn all_match(rt: HostRuntime) -> Result<(), Fail> {
         let mut rows = [RangeRow { low: 0, high: 0 }; 96];
-        nests_scan(&rt, RowTable::checked(&mut rows))
+        nests_scan(&rt, RowTable::form(&mut rows)?)
     }
 
     #[test]

@@ -3,8 +3,8 @@
 
 mod script;
 
-use crate::script::{read, show};
-use anyhow::anyhow;
+use crate::script::{Shown, read};
+use anyhow::Context;
 use engine_runs::calls::Call;
 use engine_runs::runs::run_both;
 use engines::direct::Direct;
@@ -16,14 +16,10 @@ fn main(rt: HostRuntime) -> anyhow::Result<()> {
     let heap = rt.alloc();
     let mut calls = Vec::new(heap);
     for line in rt.lines(heap) {
-        let line = line?;
-        match read(&line) {
-            Some(call) => calls.push(call)?,
-            None => return Err(anyhow!("not a call")),
-        }
+        calls.push(read(&line?).context("not a call")?)?;
     }
     let mut rows = [ProtocolRow::Any; 100];
-    tour(&rt, RowTable::checked(&mut rows), &calls)
+    tour(&rt, RowTable::form(&mut rows)?, &calls)
 }
 
 // Runs the calls on both engines, and shows the answers of one: those of the other are equal.
@@ -36,9 +32,8 @@ fn tour<T: Rows<ProtocolRow> + Drop>(
     let mut direct = Direct::new();
     let both = run_both(rt.alloc(), &mut scan, &mut direct, calls)?;
     for answer in both.first.iter() {
-        show(rt, *answer)?;
+        println!(rt; "{}", Shown(*answer))?;
     }
-    let asked = scan.asked_number();
-    println!(rt; "asked {asked}")?;
+    println!(rt; "asked {}", scan.asked_number())?;
     Ok(())
 }

@@ -1,71 +1,63 @@
 // The script's lines: reading a call, showing an answer.
 use engine_runs::calls::{Answer, Call};
-use fields::faults::Fault;
 use fields::kinds::Kind;
 use fields::protocols::{Protocol, ProtocolRow};
-use std::io;
+use parts::marks::PLACES;
+use std::fmt;
 
 // One of: empty, set PLACE NUMBER, set PLACE any, clear PLACE, match NUMBER.
+// No `FromStr`: the type of a call is another crate's, and its words are this program's.
 pub fn read(line: &str) -> Option<Call<Protocol>> {
     let mut words = line.split(' ');
     match words.next()? {
         "empty" => Some(Call::Empty),
         "set" => {
-            let place = words.next()?.parse::<u8>().ok()?;
-            let value = read_value(words.next()?)?;
-            Some(Call::Set(place, value))
+            let place = words.next()?.parse().ok()?;
+            Some(Call::Set(place, read_value(words.next()?)?))
         }
-        "clear" => Some(Call::Clear(words.next()?.parse::<u8>().ok()?)),
-        "match" => Some(Call::Match(words.next()?.parse::<u32>().ok()?)),
+        "clear" => Some(Call::Clear(words.next()?.parse().ok()?)),
+        "match" => Some(Call::Match(words.next()?.parse().ok()?)),
         _ => None,
     }
 }
 
 fn read_value(word: &str) -> Option<Protocol> {
-    if word == "any" {
-        return <Protocol as Kind>::form(ProtocolRow::Any).ok();
-    }
-    let number = word.parse::<u8>().ok()?;
-    <Protocol as Kind>::form(ProtocolRow::Only(number)).ok()
+    let row = match word {
+        "any" => ProtocolRow::Any,
+        number => ProtocolRow::Only(number.parse().ok()?),
+    };
+    <Protocol as Kind>::form(row).ok()
 }
 
-// One line for each answer; a refusal by its number and detail.
-pub fn show(rt: &HostRuntime, answer: Answer<Protocol>) -> io::Result<()> {
-    match answer {
-        Answer::Emptied => println!(rt; "emptied"),
-        Answer::Set(set) => match set {
-            Ok(()) => println!(rt; "set"),
-            Err(fault) => show_fault(rt, fault),
-        },
-        Answer::Cleared(cleared) => match cleared {
-            Ok(value) => show_value(rt, value),
-            Err(fault) => show_fault(rt, fault),
-        },
-        Answer::Matched(found, list) => match found {
-            Ok(count) => show_labels(rt, count, &list),
-            Err(fault) => show_fault(rt, fault),
-        },
-    }
-}
+// An answer as the text of one line; a refusal by its number and detail.
+#[derive(Clone, Copy)]
+pub struct Shown(pub Answer<Protocol>);
 
-fn show_value(rt: &HostRuntime, value: Protocol) -> io::Result<()> {
-    match value.row() {
-        ProtocolRow::Any => println!(rt; "cleared any"),
-        ProtocolRow::Only(number) => println!(rt; "cleared {number}"),
+impl fmt::Display for Shown {
+    fn fmt<W: fmt::Write>(&self, f: &mut fmt::Formatter<W>) -> fmt::Result {
+        match self.0 {
+            Answer::Emptied => write!(f, "emptied"),
+            Answer::Set(Ok(())) => write!(f, "set"),
+            Answer::Cleared(Ok(value)) => match value.row() {
+                ProtocolRow::Any => write!(f, "cleared any"),
+                ProtocolRow::Only(number) => write!(f, "cleared {number}"),
+            },
+            Answer::Matched(Ok(count), list) => write_labels(f, count, &list),
+            Answer::Set(Err(fault))
+            | Answer::Cleared(Err(fault))
+            | Answer::Matched(Err(fault), _) => write!(f, "refused {fault}"),
+        }
     }
 }
 
-fn show_labels(rt: &HostRuntime, count: usize, list: &[u8]) -> io::Result<()> {
-    print!(rt; "matched {count}:")?;
+fn write_labels<W: fmt::Write>(
+    f: &mut fmt::Formatter<W>,
+    count: usize,
+    list: &[u8; PLACES],
+) -> fmt::Result {
+    write!(f, "matched {count}:")?;
     for label in list.iter().take(count) {
-        let label = *label;
-        print!(rt; " {label}")?;
+        write!(f, " {label}")?;
     }
-    println!(rt; "")
-}
-
-fn show_fault(rt: &HostRuntime, fault: Fault) -> io::Result<()> {
-    let number = fault.number();
-    let detail = fault.detail();
-    println!(rt; "refused {number} {detail}")
+    Ok(())
 }

@@ -3,3 +3,4 @@ pub mod Meanings
 pub mod Lying
 pub mod Marking
 pub mod Reaching
+pub mod Searching

@@ -1,6 +1,5 @@
 -- Lists of marks of which at most two are set.
-use Rattle.std.proofs.Common.{◌≡◌, ℕ, zero, suc, ◌+◌, ◌<◌, Bool, true, false, ◌⊎◌, List, [], ◌∷◌, map, get_or, None, Option, refl, ap, ◌∙◌, inl, inr, ⊎_elim, arith}
-use Rattle.std.proofs.lemmas.Bool.{false≢true}
+use Rattle.std.proofs.Common.{◌≡◌, ℕ, zero, suc, ◌+◌, ◌<◌, Bool, true, false, ◌⊎◌, List, [], ◌∷◌, map, get_or, None, Option, refl, arith}
 use Rattle.parts.specs.Marks.{hit, marked_from}
 
 -- the mark of a place
@@ -15,23 +14,16 @@ marked_none k (true ∷ ms) h = absurd (h 0 refl)
 marked_none k (false ∷ ms) h = marked_none (k + 1) ms (λ l. h (suc l))
 
 pub marked_one : (k : ℕ) (ms : List Bool) (a : ℕ) → get_or ms a false ≡ true → ((l : ℕ) → get_or ms l false ≡ true → l ≡ a) → marked_from k ms ≡ (k + a) ∷ []
-marked_one k [] a e h = absurd (false≢true e)
-marked_one k (true ∷ ms) zero e h = ap (λ (rest : List ℕ). k ∷ rest) (marked_none (k + 1) ms (λ l t. let z = h (suc l) t in omega arith)) ∙ ap (λ (n : ℕ). n ∷ []) (omega arith)
-marked_one k (false ∷ ms) zero e h = absurd (false≢true e)
+marked_one k [] a e h = cc
+marked_one k (true ∷ ms) zero e h = grind (arith, marked_none (k + 1) ms (λ l t. let z = h (suc l) t in omega arith))
+marked_one k (false ∷ ms) zero e h = cc
 marked_one k (true ∷ ms) (suc a) e h = absurd (let z = h 0 refl in omega arith)
-marked_one k (false ∷ ms) (suc a) e h = marked_one (k + 1) ms a e (λ l t. let z = h (suc l) t in omega arith) ∙ ap (λ (n : ℕ). n ∷ []) (omega arith)
+marked_one k (false ∷ ms) (suc a) e h = grind (arith, marked_one (k + 1) ms a e (λ l t. let z = h (suc l) t in omega arith))
 
 pub marked_two : (k : ℕ) (ms : List Bool) (a b : ℕ) → a < b → get_or ms a false ≡ true → get_or ms b false ≡ true → ((l : ℕ) → get_or ms l false ≡ true → (l ≡ a) ⊎ (l ≡ b)) → marked_from k ms ≡ (k + a) ∷ (k + b) ∷ []
-marked_two k [] a b o e f h = absurd (false≢true e)
-marked_two k (true ∷ ms) zero zero o e f h = absurd (omega arith)
-marked_two k (false ∷ ms) zero zero o e f h = absurd (omega arith)
-marked_two k (true ∷ ms) (suc a) zero o e f h = absurd (omega arith)
-marked_two k (false ∷ ms) (suc a) zero o e f h = absurd (omega arith)
-marked_two k (true ∷ ms) zero (suc b) o e f h =
-    let rest : marked_from (k + 1) ms ≡ (k + 1 + b) ∷ [] = marked_one (k + 1) ms b f (λ l t. ⊎_elim (λ (z : suc l ≡ 0). absurd (omega arith)) (λ (z : suc l ≡ suc b). omega arith) (h (suc l) t)) in
-    ap (λ (ls : List ℕ). k ∷ ls) rest ∙ (let x : k ≡ k + 0 = omega arith in let y : k + 1 + b ≡ k + suc b = omega arith in ap (λ (n : ℕ). n ∷ (k + 1 + b) ∷ []) x ∙ ap (λ (n : ℕ). (k + 0) ∷ n ∷ []) y)
-marked_two k (false ∷ ms) zero (suc b) o e f h = absurd (false≢true e)
-marked_two k (true ∷ ms) (suc a) (suc b) o e f h = absurd (⊎_elim (λ (z : 0 ≡ suc a). omega arith) (λ (z : 0 ≡ suc b). omega arith) (h 0 refl))
-marked_two k (false ∷ ms) (suc a) (suc b) o e f h =
-    let rest : marked_from (k + 1) ms ≡ (k + 1 + a) ∷ (k + 1 + b) ∷ [] = marked_two (k + 1) ms a b (omega arith) e f (λ l t. ⊎_elim (λ (z : suc l ≡ suc a). inl (omega arith)) (λ (z : suc l ≡ suc b). inr (omega arith)) (h (suc l) t)) in
-    rest ∙ (let x : k + 1 + a ≡ k + suc a = omega arith in let y : k + 1 + b ≡ k + suc b = omega arith in ap (λ (n : ℕ). n ∷ (k + 1 + b) ∷ []) x ∙ ap (λ (n : ℕ). (k + suc a) ∷ n ∷ []) y)
+marked_two k [] a b o e f h = cc
+marked_two k ms a zero o e f h = absurd (omega arith)
+marked_two k (true ∷ ms) zero (suc b) o e f h = grind (arith, marked_one (k + 1) ms b f (λ l t. let z = h (suc l) t in grind arith))
+marked_two k (false ∷ ms) zero (suc b) o e f h = cc
+marked_two k (true ∷ ms) (suc a) (suc b) o e f h = absurd (let z = h 0 refl in grind arith)
+marked_two k (false ∷ ms) (suc a) (suc b) o e f h = grind (arith, marked_two (k + 1) ms a b (omega arith) e f (λ l t. let z = h (suc l) t in grind arith))

@@ -1,99 +1,69 @@
 -- What the calls leave of a meaning: 96 places, no value at two of them.
-use Rattle.std.proofs.Common.{◌≡◌, ℕ, ◌+◌, ◌%◌, ◌^◌, ◌<◌, ◌≤◌, Bool, true, false, cond, ◌⊎◌, List, [], ◌∷◌, ◌++◌, length, get_or, set, replicate, Some, None, Ok, Err, Decides, Option, sym, refl, ap, ◌∙◌, subst, inl, inr, ⊎_elim, mod-lt, arith, length-append, length-set}
-use native.Mathlib.Nat.{mod-add-mod}
-use Rattle.std.proofs.lemmas.List.{get_or-set_same, get_or-set_other, get_or_past, get_or-replicate, set-get_or, length-replicate}
-use Rattle.std.proofs.lemmas.Bool.{cases_eq, cases_lt, le-ltb, lt-ltb}
+use Rattle.std.proofs.Common.{◌≡◌, ℕ, ◌<◌, Bool, ◌⊎◌, List, [], length, get_or, set, replicate, Some, None, Ok, Err, Decides, Option, refl, ap, ◌∙◌, inl, inr, ⊎_elim, arith, length-set}
+use Rattle.std.proofs.lemmas.List.{get_or-set_same, get_or-set_other, get_or_past, set-get_or}
+use Rattle.std.proofs.lemmas.Bool.{cases_eq}
+use Rattle.std.proofs.lemmas.Bool.Decides.{nat_tests}
+use Rattle.std.proofs.lemmas.Grind.{common_steps}
 use Rattle.fields.specs.declared.faults.Fault.{Fault}
-use Rattle.fields.specs.declared.faults.Fault.TheVariants.{Label, Full, Elsewhere, Short}
-use Rattle.fields.specs.Faults.{answer, first_fault, unless, when}
-use Rattle.parts.specs.Meaning.{Meaning, Proper, meaning, nothing, put, find, full, elsewhere, label_fault, set_fault, cleared, taken, asked_once, list_fault}
-use Rattle.engines.proofs.Finding.{apart, find_absent}
+use Rattle.fields.specs.Faults.{answer, unless}
+use Rattle.parts.specs.Meaning.{Meaning, Proper, meaning, nothing, put, find, set_fault, cleared}
+use Rattle.parts.specs.Checks.{set_refusal, taken_from}
+use Rattle.engines.proofs.Finding.{find_absent}
+
+-- one place is written, and the others stay
+pub set_at : {A : Type 0} (xs : List A) (l i : ℕ) (a d : A) → l < length xs → ((i ≡ l) × (get_or (set xs l a) i d ≡ a)) ⊎ ((i ≡ l → ⊥) × (get_or (set xs l a) i d ≡ get_or xs i d))
+set_at {A} xs l i a d h = ⊎_elim (λ (s : i ≡ l). inl (s, ap (λ (k : ℕ). get_or (set xs l a) k d) s ∙ get_or-set_same xs l a d h)) (λ (o : i ≡ l → ⊥). inr (o, get_or-set_other xs l i a d o)) (cases_eq i l)
 
 -- no place of an empty meaning holds a value
 pub none_held : {V : Type 0} (n l : ℕ) → get_or (replicate {A = Option V} n None) l None ≡ None
-none_held {V} n l = ⊎_elim (λ (b : l < n). get_or-replicate n l None None b) (λ (a : n ≤ l). get_or_past (replicate n None) l None (subst (λ (k : ℕ). k ≤ l) (sym (length-replicate n None)) a)) (cases_lt l n)
+none_held n l = grind (arith, common_steps)
 
 pub proper_nothing : {V : Type 0} → Proper (nothing {V = V})
-proper_nothing {V} = record {
-  size = refl;
-  single = λ i j v e f. absurd (apart v (sym e ∙ none_held 96 i));
-  counted = omega arith;
-}
+proper_nothing {V} = record { size = refl; single = λ i j v e f. cc (none_held {V = V} 96 i); counted = omega arith }
 
-pub proper_asked : {V : Type 0} (m : Meaning V) → Proper m → Proper (asked_once m)
-proper_asked m p = record { size = p.size; single = p.single; counted = mod-lt (m.asked + 1) (omega arith) }
-
-module _ {V : Type 0} (eq : V → V → Bool) (labels : V → List ℕ) where
-  -- what refuses to set a value that names no label
-  module _ (xs : List (Option V)) (l : ℕ) (v : V) (bare : labels v ≡ []) (within : l < 96) where
-    pub set_faulty : (b : Bool) (o : Option ℕ) → full (get_or xs l None) ≡ b → find eq xs v ≡ o → set_fault eq labels xs l v ≡ first_fault (when b (Full l) ∷ elsewhere o ∷ [])
-    set_faulty b o p q =
-        let F : Option Fault → Bool → Option ℕ → Option Fault = λ a c k. first_fault (a ∷ when c (Full l) ∷ elsewhere k ∷ []) in
-        let none : label_fault (l ∷ labels v) ≡ None = ap (λ (ls : List ℕ). label_fault (l ∷ ls)) bare ∙ ap (λ (c : Bool). cond c (Some (Label l)) None) (le-ltb 95 l (omega arith)) in
-        ap (λ (a : Option Fault). F a (full (get_or xs l None)) (find eq xs v)) none ∙ ap (λ (c : Bool). F None c (find eq xs v)) p ∙ ap (λ (k : Option ℕ). F None b k) q
-
-    pub set_full : full (get_or xs l None) ≡ true → set_fault eq labels xs l v ≡ Some (Full l)
-    set_full p = set_faulty true (find eq xs v) p refl
-
-    pub set_elsewhere : (k : ℕ) → full (get_or xs l None) ≡ false → find eq xs v ≡ Some k → set_fault eq labels xs l v ≡ Some (Elsewhere k)
-    set_elsewhere k p q = set_faulty false (Some k) p q
-
-    pub set_free : full (get_or xs l None) ≡ false → find eq xs v ≡ None → set_fault eq labels xs l v ≡ None
-    set_free p q = set_faulty false None p q
-
-  -- a value that was nowhere is set
-  pub proper_set : (decides : (a b : V) → Decides (eq a b) (a ≡ b)) (m : Meaning V) → Proper m → (l : ℕ) (v : V) → l < 96 → find eq m.places v ≡ None → Proper (put m l (Some v))
-  proper_set decides m p l v h new =
-      let xs = m.places in
-      let n = p.size in
-      let nowhere : (i : ℕ) → get_or xs i None ≡ Some v → ⊥ = find_absent eq decides v 0 xs new in
-      -- what a place holds afterwards is new, or was there
-      let reads : (i : ℕ) (w : V) → get_or (set xs l (Some v)) i None ≡ Some w → ((i ≡ l) × (w ≡ v)) ⊎ (get_or xs i None ≡ Some w) = λ i w e. ⊎_elim
-      (λ (s : i ≡ l). inl (s, let same : Some v ≡ Some w = sym (get_or-set_same xs l (Some v) None (omega arith)) ∙ ap (λ (k : ℕ). get_or (set xs l (Some v)) k None) (sym s) ∙ e in let back : w ≡ v = cc in back))
-      (λ (o : i ≡ l → ⊥). inr (sym (get_or-set_other xs l i (Some v) None o) ∙ e))
-      (cases_eq i l) in
-      record {
-        size = length-set xs l (Some v) ∙ p.size;
-        single = λ i j w e f. ⊎_elim
-            (λ (a : (i ≡ l) × (w ≡ v)). ⊎_elim (λ (b : (j ≡ l) × (w ≡ v)). a.0 ∙ sym b.0) (λ (b : get_or xs j None ≡ Some w). absurd (nowhere j (b ∙ ap Some a.1))) (reads j w f))
-            (λ (a : get_or xs i None ≡ Some w). ⊎_elim (λ (b : (j ≡ l) × (w ≡ v)). absurd (nowhere i (a ∙ ap Some b.1))) (λ (b : get_or xs j None ≡ Some w). p.single i j w a b) (reads j w f))
-            (reads i w e);
-        counted = p.counted;
-      }
+-- a value that was nowhere is set
+pub proper_set : {V : Type 0} (eq : V → V → Bool) (decides : (a b : V) → Decides (eq a b) (a ≡ b)) (m : Meaning V) → Proper m → (l : ℕ) (v : V) → l < 96 → find eq m.places v ≡ None → Proper (put m l (Some v))
+proper_set eq decides m p l v h new =
+    let n = p.size in
+    let nowhere = find_absent eq decides v 0 m.places new in
+    record {
+      size = length-set m.places l (Some v) ∙ p.size;
+      single = λ i j w e f. grind (arith, set_at m.places l i (Some v) None, set_at m.places l j (Some v) None, p.single i j w, nowhere i, nowhere j);
+      counted = p.counted;
+    }
 
 -- a place is cleared
 pub proper_clear : {V : Type 0} (m : Meaning V) → Proper m → (l : ℕ) → l < 96 → Proper (put m l None)
-proper_clear {V} m p l h =
-    let xs = m.places in
+proper_clear m p l h =
     let n = p.size in
-    let reads : (i : ℕ) (w : V) → get_or (set xs l None) i None ≡ Some w → get_or xs i None ≡ Some w = λ i w e. ⊎_elim
-    (λ (s : i ≡ l). absurd (apart w (sym e ∙ ap (λ (k : ℕ). get_or (set xs l None) k None) s ∙ get_or-set_same xs l None None (omega arith))))
-    (λ (o : i ≡ l → ⊥). sym (get_or-set_other xs l i None None o) ∙ e)
-    (cases_eq i l) in
-    record { size = length-set xs l None ∙ p.size; single = λ i j w e f. p.single i j w (reads i w e) (reads j w f); counted = p.counted }
+    record {
+      size = length-set m.places l None ∙ p.size;
+      single = λ i j w e f. grind (arith, set_at m.places l i None None, set_at m.places l j None None, p.single i j w);
+      counted = p.counted;
+    }
 
-pub cleared_past : {V : Type 0} (xs : List (Option V)) (l : ℕ) → 96 ≤ l → cleared xs l ≡ Err (Label l)
-cleared_past {V} xs l h = ap (λ (b : Bool). cond b (Err (Label l)) (taken l (get_or xs l None))) (lt-ltb 95 l (omega arith))
+-- what lets a value that names no label be set, and what lets a place be cleared
+pub set_allowed : {V : Type 0} (l : ℕ) (held : Option V) (found : Option ℕ) → set_refusal l [] held found ≡ None → (l < 96) × (held ≡ None) × (found ≡ None)
+set_allowed l None None e = grind (arith, nat_tests)
+set_allowed l None (Some k) e = grind (arith, nat_tests)
+set_allowed l (Some v) f e = grind (arith, nat_tests)
 
-pub cleared_within : {V : Type 0} (xs : List (Option V)) (l : ℕ) (o : Option V) → l < 96 → o ≡ get_or xs l None → cleared xs l ≡ taken l o
-cleared_within {V} xs l o h e = ap (λ (b : Bool). cond b (Err (Label l)) (taken l (get_or xs l None))) (le-ltb 95 l (omega arith)) ∙ ap (taken l) (sym e)
+pub clear_allowed : {V : Type 0} (l : ℕ) (held : Option V) (v : V) → taken_from l held ≡ Ok v → (l < 96) × (held ≡ Some v)
+clear_allowed l None v e = grind (arith, nat_tests)
+clear_allowed l (Some w) v e = grind (arith, nat_tests)
 
--- an empty place stays as it is when it is emptied
-pub kept_empty : {V : Type 0} (m : Meaning V) (l : ℕ) → get_or m.places l None ≡ None → m ≡ put m l None
-kept_empty {V} m l e = ap (λ (xs : List (Option V)). meaning xs m.asked) (sym (ap (λ (o : Option V). set m.places l o) (sym e) ∙ set-get_or m.places l None))
+-- the check of a set tells of its fault, and a clear that is refused changes nothing
+pub set_told : {V : Type 0} (eq : V → V → Bool) (labels : V → List ℕ) (xs : List (Option V)) (l : ℕ) (v : V) → labels v ≡ [] → (held : Option V) (found : Option ℕ) → held ≡ get_or xs l None → found ≡ find eq xs v → set_refusal l [] held found ≡ set_fault eq labels xs l v
+set_told eq labels xs l v bare held found h f = cc
 
--- one question more, in the asked number and in the list
-pub asked_more : (l : List ℕ) (n x : ℕ) → n ≡ length l % 2 ^ 32 → (n + 1) % 2 ^ 32 ≡ length (l ++ x ∷ []) % 2 ^ 32
-asked_more l n x e = ap (λ (k : ℕ). (k + 1) % 2 ^ 32) e ∙ mod-add-mod (length l) (2 ^ 32) 1 ∙ ap (λ (k : ℕ). k % 2 ^ 32) (sym (length-append l (x ∷ [])))
+pub clear_refused : {V : Type 0} (m : Meaning V) (l : ℕ) (e : Fault) → length m.places ≡ 96 → cleared m.places l ≡ Err e → m ≡ put m l None
+clear_refused {V} m l e n r = ap (λ (xs : List (Option V)). meaning xs m.asked) (grind (arith, nat_tests, set-get_or m.places l None, get_or_past m.places l None))
 
--- a refused call leaves what was, another leaves what it made
+-- a refused call leaves what was, another was not refused
 pub unless_refused : {A B : Type 0} (f : Option Fault) (a : A) (e : Fault) → answer f a ≡ Err e → (x y : B) → unless f x y ≡ x
-unless_refused None a e h x y = absurd (let z : ◌≡◌ {A = ℕ} 0 1 = cc in omega arith)
+unless_refused None a e h x y = cc
 unless_refused (Some g) a e h x y = refl
 
-pub unless_done : {A B : Type 0} (f : Option Fault) (a b : A) → answer f a ≡ Ok b → (x y : B) → unless f x y ≡ y
-unless_done None a b h x y = refl
-unless_done (Some g) a b h x y = absurd (let z : ◌≡◌ {A = ℕ} 0 1 = cc in omega arith)
-
-pub short_list : {A : Type 0} (n : ℕ) (a : A) → n < 96 → answer (list_fault n) a ≡ Err (Short n)
-short_list n a h = ap (λ (b : Bool). answer (when b (Short n)) a) (lt-ltb n 96 h)
+pub not_refused : {A : Type 0} (f : Option Fault) (a b : A) → answer f a ≡ Ok b → f ≡ None
+not_refused None a b h = refl
+not_refused (Some g) a b h = cc

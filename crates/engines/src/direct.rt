@@ -10,6 +10,7 @@ use crate::pairs::write_rising;
 use fields::faults::Fault;
 use fields::kinds::Kind;
 use fields::protocols::{Protocol, ProtocolRow};
+use parts::checks::{check_clear, check_set, entry_at};
 use parts::marks::PLACES;
 use parts::told::Told;
 
@@ -49,7 +50,7 @@ impl Direct {
 
     // The label kept for a value.
     fn label(&self, row: ProtocolRow) -> Option<u8>
-        ensures { result ≡ kept_label self.now.any self.now.numbered row }
+        ensures { result ≡ kept_label self.now row }
     {
         match row {
             ProtocolRow::Any => self.any,
@@ -59,12 +60,9 @@ impl Direct {
 
     // The label kept for a number; only numbers of 8 bits have one.
     fn numbered_label(&self, number: u32) -> Option<u8>
-        ensures { length self.now.numbered ≡ 256 → result ≡ slice_index_or self.now.numbered number None }
+        ensures { result ≡ slice_index_or self.now.numbered number None }
     {
-        if number as usize >= NUMBERS {
-            return None;
-        }
-        self.numbered[number as usize]
+        entry_at(&self.numbered, number as usize)
     }
 
     // Keeps a label, or none, for a value.
@@ -72,7 +70,7 @@ impl Direct {
         ensures held { self.new.held ≡ self.old.held }
         ensures asked { self.new.asked ≡ self.old.asked }
         ensures size { length self.new.numbered ≡ length self.old.numbered }
-        ensures label { length self.old.numbered ≡ 256 → (r : ProtocolRow) → fits_byte r ≡ true → kept_label self.new.any self.new.numbered r ≡ (if same_protocol r row then label else kept_label self.old.any self.old.numbered r) }
+        ensures label { length self.old.numbered ≡ 256 → (r : ProtocolRow) → fits_byte r ≡ true → kept_label self.new r ≡ (if same_protocol r row then label else kept_label self.old r) }
     {
         match row {
             ProtocolRow::Any => self.any = label,
@@ -84,7 +82,7 @@ impl Direct {
 impl Told<Protocol> for Direct {
     type Asked = u32;
 
-    ghost shows = { λ s m. Reached s.held s.any s.numbered s.asked m };
+    ghost shows = { Reached };
 
     ghost agrees = { λ s l. s.asked ≡ length l % 2 ^ 32 };
 
@@ -99,17 +97,8 @@ impl Told<Protocol> for Direct {
 
     fn set(&mut self, place: u8, value: Protocol) -> Result<(), Fault> {
         let at = place as usize;
-        if at >= PLACES {
-            return Err(Fault::Label(place));
-        }
-        let here = self.held[at];
-        if here.is_some() {
-            return Err(Fault::Full(place));
-        }
         let row = value.row();
-        if let Some(label) = self.label(row) {
-            return Err(Fault::Elsewhere(label));
-        }
+        check_set(place, &[], entry_at(&self.held, at), self.label(row))?;
         self.held[at] = Some(value);
         self.point(row, Some(place));
         Ok(())
@@ -117,13 +106,7 @@ impl Told<Protocol> for Direct {
 
     fn clear(&mut self, place: u8) -> Result<Protocol, Fault> {
         let at = place as usize;
-        if at >= PLACES {
-            return Err(Fault::Label(place));
-        }
-        let here = self.held[at];
-        let Some(value) = here else {
-            return Err(Fault::Vacant(place));
-        };
+        let value = check_clear(place, entry_at(&self.held, at))?;
         self.held[at] = None;
         self.point(value.row(), None);
         Ok(value)

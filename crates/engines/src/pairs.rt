@@ -6,7 +6,7 @@ ghost use Rattle.parts.specs.Marks.{over_start};
 ghost use Rattle.engines.specs.Rising.{rising};
 
 use fields::faults::Fault;
-use parts::marks::PLACES;
+use parts::checks::check_room;
 
 // Writes the labels there are, rising, from the start of the list, and answers how many.
 pub fn write_rising(first: Option<u8>, second: Option<u8>, list: &mut [u8]) -> Result<usize, Fault>
@@ -14,9 +14,7 @@ pub fn write_rising(first: Option<u8>, second: Option<u8>, list: &mut [u8]) -> R
     ensures written { list.new ≡ unless (list_fault (length list.old)) list.old (over_start (rising first second) list.old) }
     ensures few { IfOk result (λ n. n ≤ 96) }
 {
-    if list.len() < PLACES {
-        return Err(Fault::Short(list.len() as u8));
-    }
+    check_room(list)?;
     match (first, second) {
         (None, None) => Ok(0),
         (Some(label), None) | (None, Some(label)) => {

@@ -4,7 +4,7 @@ ghost use Rattle.fields.specs.Faults.{answer, answer_by};
 ghost use Rattle.parts.specs.Meaning.{list_fault};
 
 use fields::faults::Fault;
-use parts::marks::PLACES;
+use parts::checks::check_room;
 
 // What an engine wants of a table: at least 96 rows, to be read and put.
 pub trait Rows<R: Copy> {
@@ -30,10 +30,7 @@ pub struct RowTable<'a, R: Copy> {
 pub fn check_rows<R: Copy>(rows: &[R]) -> Result<(), Fault>
     ensures { result ≡ answer (list_fault (length rows.now)) tt }
 {
-    if rows.len() < PLACES {
-        return Err(Fault::Short(rows.len() as u8));
-    }
-    Ok(())
+    check_room(rows)
 }
 
 impl<'a, R: Copy> RowTable<'a, R> {
@@ -41,18 +38,8 @@ impl<'a, R: Copy> RowTable<'a, R> {
     pub fn form(rows: &'a mut [R]) -> Result<RowTable<'a, R>, Fault>
         ensures { answer_by (λ t. t.rows.now) result ≡ answer (list_fault (length rows.old)) rows.old }
     {
-        if let Err(fault) = check_rows(rows) {
-            return Err(fault);
-        }
+        check_rows(rows)?;
         Ok(RowTable { rows })
-    }
-
-    // The same for rows that were checked, where a table cannot be taken out of a Result.
-    pub fn checked(rows: &'a mut [R]) -> RowTable<'a, R>
-        requires { 96 ≤ length rows.old }
-        ensures { result.rows.now ≡ rows.old }
-    {
-        RowTable { rows }
     }
 }
 

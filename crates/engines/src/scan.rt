@@ -13,7 +13,8 @@ use crate::searches::{held, place_of, satisfied_marks};
 use crate::used::Used;
 use fields::faults::Fault;
 use fields::kinds::Kind;
-use parts::marks::{PLACES, write_marked};
+use parts::checks::{check_clear, check_set};
+use parts::marks::write_marked;
 use parts::told::Told;
 use std::marker::PhantomData;
 
@@ -76,19 +77,11 @@ impl<R: Copy, T: Rows<R>, V: Kind<Row = R>> Told<V> for Scan<R, T> {
         ensures rest { RestKept T.Rows.items self.old self.new }
     {
         let at = place as usize;
-        if at >= PLACES {
-            return Err(Fault::Label(place));
-        }
-        let mut used = self.used;
-        if used.is_full(at) {
-            return Err(Fault::Full(place));
-        }
-        if let Some(label) = place_of(self.table.rows(), &used, value) {
-            return Err(Fault::Elsewhere(label));
-        }
+        let rows = self.table.rows();
+        let held = held::<R, V>(rows, &self.used, at);
+        check_set(place, &[], held, place_of(rows, &self.used, value))?;
         self.table.put(at, value.row());
-        used.fill(at);
-        self.used = used;
+        self.used.fill(at);
         Ok(())
     }
 
@@ -100,15 +93,8 @@ impl<R: Copy, T: Rows<R>, V: Kind<Row = R>> Told<V> for Scan<R, T> {
         ensures rest { RestKept T.Rows.items self.old self.new }
     {
         let at = place as usize;
-        if at >= PLACES {
-            return Err(Fault::Label(place));
-        }
-        let mut used = self.used;
-        let Some(value) = held::<R, V>(self.table.rows(), &used, at) else {
-            return Err(Fault::Vacant(place));
-        };
-        used.free(at);
-        self.used = used;
+        let value = check_clear(place, held::<R, V>(self.table.rows(), &self.used, at))?;
+        self.used.free(at);
         Ok(value)
     }
 }
@@ -124,8 +110,7 @@ impl<R: Copy, T: Rows<R>, V: Kind<Row = R>> Engine<V> for Scan<R, T> {
         ensures few { IfOk result (λ n. n ≤ 96) }
         ensures rest { RestKept T.Rows.items self.old self.new }
     {
-        let used = self.used;
-        let marks = satisfied_marks::<R, V>(self.table.rows(), &used, number);
+        let marks = satisfied_marks::<R, V>(self.table.rows(), &self.used, number);
         let count = write_marked(&marks, list)?;
         self.asked = self.asked.wrapping_add(1);
         Ok(count)

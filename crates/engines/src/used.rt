@@ -1,5 +1,5 @@
 // Which places of a table are full.
-ghost use Rattle.std.specs.Prelude.{◌≡◌, ◌<◌, min, true, false, replicate, slice_index_or, slice_set};
+ghost use Rattle.std.specs.Prelude.{◌≡◌, ◌<◌, true, false, replicate, slice_index_or, slice_set};
 ghost use Rattle.engines.specs.Tables.{Idle};
 
 use parts::marks::PLACES;
@@ -8,13 +8,13 @@ use parts::marks::PLACES;
 #[derive(Clone, Copy)]
 pub struct Used {
     full: [bool; PLACES],
-    top: usize,
+    top: u8,
+    ghost idle: { Idle full top },
 }
 
 impl Used {
     pub fn none() -> Used
-        ensures full { result.full ≡ replicate 96 false }
-        ensures idle { Idle result.full result.top }
+        ensures { result.full ≡ replicate 96 false }
     {
         Used {
             full: [false; PLACES],
@@ -22,32 +22,29 @@ impl Used {
         }
     }
 
-    pub fn top(&self) -> usize
-        ensures { result ≡ min self.now.top 96 }
+    pub fn top(&self) -> u8
+        ensures { result ≡ self.now.top }
     {
-        self.top.min(PLACES)
+        self.top
     }
 
     pub fn is_full(&self, place: usize) -> bool
-        requires { place < 96 }
         ensures { result ≡ slice_index_or self.now.full place false }
     {
-        self.full[place]
+        place < self.top as usize && self.full[place]
     }
 
     pub fn fill(&mut self, place: usize)
         requires { place < 96 }
-        ensures filled { self.new.full ≡ slice_set self.old.full place true }
-        ensures idle { Idle self.old.full self.old.top → Idle self.new.full self.new.top }
+        ensures { self.new.full ≡ slice_set self.old.full place true }
     {
         self.full[place] = true;
-        self.top = self.top.max(place + 1);
+        self.top = self.top.max(place as u8 + 1);
     }
 
     pub fn free(&mut self, place: usize)
         requires { place < 96 }
-        ensures freed { self.new.full ≡ slice_set self.old.full place false }
-        ensures idle { Idle self.new.full self.new.top }
+        ensures { self.new.full ≡ slice_set self.old.full place false }
     {
         self.full[place] = false;
         self.top = top_of(&self.full);
@@ -55,14 +52,10 @@ impl Used {
 }
 
 // One more than the highest full place.
-fn top_of(full: &[bool; PLACES]) -> usize
+fn top_of(full: &[bool; PLACES]) -> u8
     ensures { Idle full.now result }
 {
-    let mut top = 0;
-    for (place, is_full) in full.iter().enumerate() {
-        if *is_full {
-            top = place + 1;
-        }
-    }
-    top
+    full.iter()
+        .rposition(|is_full| *is_full)
+        .map_or(0, |place| place as u8 + 1)
 }

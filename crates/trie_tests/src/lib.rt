@@ -75,6 +75,6 @@ mod tests {
             address: 0,
             length: 0,
         }; 96];
-        alike(&rt, rt.alloc(), RowTable::checked(&mut rows))
+        alike(&rt, rt.alloc(), RowTable::form(&mut rows)?)
     }
 }

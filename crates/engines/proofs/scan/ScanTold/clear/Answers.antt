@@ -1,61 +1,27 @@
-use Rattle.std.proofs.Common.{◌≡◌, Bool, false, List, get_or, set, Some, None, sym, refl, ◌∙◌, subst, arith}
-use Rattle.std.proofs.lemmas.List.{get_or_past}
-use Rattle.std.proofs.lemmas.Bool.{false≢true}
-use Rattle.parts.specs.Meaning.{Meaning}
-use Rattle.engines.specs.Tables.{Idle, Lies, Scanned}
+use Rattle.std.proofs.Common.{◌≡◌, Bool, List, get_or, set, None, Err, sym, ap, ◌∙◌, subst}
+use Rattle.parts.specs.Meaning.{cleared}
+use Rattle.parts.specs.Checks.{taken_from}
+use Rattle.engines.specs.Tables.{Lies}
+use Rattle.engines.specs.Scans.{Shows}
 use Rattle.engines.proofs.Lying.{lies_clear}
-use Rattle.engines.proofs.Meanings.{cleared_past, cleared_within, kept_empty, proper_clear}
+use Rattle.engines.proofs.Meanings.{clear_allowed, clear_refused, proper_clear}
 use Rattle.engines.proofs.scan.ScanTold.clear.Goals as goal
 
-pub returns-then-at-ge-PLACES : goal.returns-then-at-ge-PLACES
-returns-then-at-ge-PLACES g c =
+pub returns-in_err-value-clause-held : goal.returns-in_err-value-clause-held
+returns-in_err-value-clause-held g c m h =
     let s = c.args.self.now in
     let l = c.args.place in
-    let Shows : Meaning g.row.V.Denot → Type 0 = Scanned g.V.Kind.plain (g.T.Rows.items s.table) s.used.full s.used.top s.asked in
-    record {
-      result = λ m h. sym (cleared_past m.places l c.if-at-ge-PLACES.true);
-      held = λ m h. let n = h.proper.size in subst Shows (kept_empty m l (get_or_past m.places l None (omega (arith, c.if-at-ge-PLACES.true)))) h;
-      kept = λ _. refl;
-      asked = λ _ e. e;
-      rest = refl;
-    }
+    let there : c.held.result ≡ get_or m.places l None = c.held.ensures m.places (subst (λ (rows : List g.row.R.Denot). Lies g.V.Kind.plain rows s.used.full m.places) (sym c.rows.ensures.value) h.lies) in
+    let refused : cleared m.places l ≡ Err c.in_err-value.field-0.0 = ap (taken_from l) (sym there) ∙ sym c.check_clear.ensures ∙ c.in_err-value.was in
+    subst (Shows g.V.Kind.plain g.T.Rows.items s) (clear_refused m l c.in_err-value.field-0.0 h.proper.size refused) h
 
-pub returns-in_default : goal.returns-in_default
-returns-in_default g c =
+pub returns-clause-held : goal.returns-clause-held
+returns-clause-held g c m h =
     let s = c.args.self.now in
     let l = c.args.place in
-    let Shows : Meaning g.row.V.Denot → Type 0 = Scanned g.V.Kind.plain (g.T.Rows.items s.table) s.used.full s.used.top s.asked in
-    let none : (m : Meaning g.row.V.Denot) → Shows m → None ≡ get_or m.places l None = λ m h.
-    sym c.in_default.is ∙ c.held.ensures m.places (subst (λ (rows : List g.row.R.Denot). Lies g.V.Kind.plain rows s.used.full s.used.top m.places) (sym c.rows.ensures.value) h.lies) in
+    let within = (clear_allowed l c.held.result c.in_ok-value.value (sym c.check_clear.ensures ∙ c.in_ok-value.was)).0 in
     record {
-      result = λ m h. sym (cleared_within m.places l None c.if-at-ge-PLACES.false (none m h));
-      held = λ m h. subst Shows (kept_empty m l (sym (none m h))) h;
-      kept = λ _. refl;
-      asked = λ _ e. e;
-      rest = refl;
-    }
-
-pub returns : goal.returns
-returns g c =
-    let s = c.args.self.now in
-    let u = c.free.new.self in
-    let l = c.args.place in
-    let v = c.in-Some.value in
-    let plain = g.V.Kind.plain in
-    let rows = g.T.Rows.items s.table in
-    let Was : Meaning g.row.V.Denot → Type 0 = Scanned plain rows s.used.full s.used.top s.asked in
-    let there : (m : Meaning g.row.V.Denot) → Was m → Some v ≡ get_or m.places l None = λ m h.
-    sym c.in-Some.is ∙ c.held.ensures m.places (subst (λ (r : List g.row.R.Denot). Lies plain r s.used.full s.used.top m.places) (sym c.rows.ensures.value) h.lies) in
-    let idle : Idle (set s.used.full l false) u.top = subst (λ (f : List Bool). Idle f u.top) c.free.ensures.freed c.free.ensures.idle in
-    record {
-      result = λ m h. sym (cleared_within m.places l (Some v) c.if-at-ge-PLACES.false (there m h));
-      held = λ m h. record {
-        lies = subst (λ (f : List Bool). Lies plain rows f u.top (set m.places l None)) (sym c.free.ensures.freed)
-            (lies_clear plain rows s.used.full s.used.top m.places h.lies l u.top c.if-at-ge-PLACES.false idle);
-        proper = proper_clear m h.proper l c.if-at-ge-PLACES.false;
-        counted = h.counted;
-      };
-      kept = λ e. absurd (false≢true e);
-      asked = λ _ e. e;
-      rest = refl;
+      lies = subst (λ (f : List Bool). Lies g.V.Kind.plain (g.T.Rows.items s.table) f (set m.places l None)) (sym c.free.ensures) (lies_clear g.V.Kind.plain (g.T.Rows.items s.table) s.used.full m.places h.lies s.used.idle.size l within);
+      proper = proper_clear m h.proper l within;
+      counted = h.counted;
     }

@@ -1,61 +1,50 @@
-use Rattle.std.proofs.Common.{◌≡◌, Bool, true, List, drop, set, Some, None, Option, sym, refl, ap, ◌∙◌, subst}
+use Rattle.std.proofs.Common.{◌≡◌, Bool, true, List, [], drop, set, Some, Err, Option, sym, ap, ◌∙◌, subst}
 use Rattle.std.proofs.lemmas.List.{drop-set-lt}
-use Rattle.std.proofs.lemmas.Bool.{false≢true}
 use Rattle.fields.specs.declared.faults.Fault.{Fault}
-use Rattle.fields.specs.declared.faults.Fault.TheVariants.{Full}
 use Rattle.fields.specs.Faults.{answer, unless}
-use Rattle.parts.specs.Meaning.{Meaning, full, find, put, set_fault}
-use Rattle.engines.specs.Tables.{Idle, Lies, Scanned}
+use Rattle.parts.specs.Meaning.{put, set_fault}
+use Rattle.parts.specs.Checks.{set_refusal}
+use Rattle.engines.specs.Tables.{Lies}
+use Rattle.engines.specs.Scans.{Shows}
 use Rattle.engines.proofs.Lying.{lies_set}
-use Rattle.engines.proofs.Meanings.{set_full, set_free, proper_set}
+use Rattle.engines.proofs.Meanings.{not_refused, proper_set, set_allowed, set_told, unless_refused}
 use Rattle.engines.proofs.scan.ScanTold.set.Goals as goal
 
-pub returns-then-is_full : goal.returns-then-is_full
-returns-then-is_full g c =
+pub returns-in_err-check_set-clause-held : goal.returns-in_err-check_set-clause-held
+returns-in_err-check_set-clause-held g c m h =
     let s = c.args.self.now in
     let l = c.args.place in
     let v = c.args.value in
-    let Shows : Meaning g.row.V.Denot → Type 0 = Scanned g.V.Kind.plain (g.T.Rows.items s.table) s.used.full s.used.top s.asked in
-    let fault : (m : Meaning g.row.V.Denot) → Shows m → set_fault g.V.Key.eq g.V.Key.labels m.places l v ≡ Some (Full l) = λ m h.
-    let f = h.lies.filled l (sym c.if-is_full.ensures) in
-    set_full g.V.Key.eq g.V.Key.labels m.places l v (g.met.V.Kind.unlabelled v) c.if-at-ge-PLACES.false (ap full f.1) in
-    record {
-      result = λ m h. sym (ap (λ (o : Option Fault). answer o tt) (fault m h));
-      held = λ m h. subst (λ (o : Option Fault). Shows (unless o m (put m l (Some v)))) (sym (fault m h)) h;
-      kept = λ _. refl;
-      asked = λ _ e. e;
-      rest = refl;
-    }
+    let fault = set_fault g.V.Key.eq g.V.Key.labels m.places l v in
+    let lies = subst (λ (rows : List g.row.R.Denot). Lies g.V.Kind.plain rows s.used.full m.places) (sym c.rows-rows.ensures.value) h.lies in
+    let told : set_refusal l [] c.held-held.result c.place_of.result ≡ fault = set_told g.V.Key.eq g.V.Key.labels m.places l v (g.met.V.Kind.unlabelled v) c.held-held.result c.place_of.result (c.held-held.ensures m.places lies) (c.place_of.ensures m.places lies) in
+    let refused : answer fault tt ≡ Err c.in_err-check_set.field-0.0 = ap (λ (o : Option Fault). answer o tt) (sym told) ∙ sym c.check_set.ensures ∙ c.in_err-check_set.was in
+    subst (Shows g.V.Kind.plain g.T.Rows.items s) (sym (unless_refused fault tt c.in_err-check_set.field-0.0 refused m (put m l (Some v)))) h
 
-pub returns : goal.returns
-returns g c =
+pub returns-clause-held : goal.returns-clause-held
+returns-clause-held g c m h =
     let s = c.args.self.now in
-    let t = c.put.new.self in
-    let u = c.fill.new.self in
     let l = c.args.place in
     let v = c.args.value in
     let plain = g.V.Kind.plain in
     let eq = g.V.Key.eq in
-    let Was : Meaning g.row.V.Denot → Type 0 = Scanned plain (g.T.Rows.items s.table) s.used.full s.used.top s.asked in
-    let Is : Meaning g.row.V.Denot → Type 0 = Scanned plain (g.T.Rows.items t) u.full u.top s.asked in
-    let new : (m : Meaning g.row.V.Denot) → Was m → find eq m.places v ≡ None = λ m h.
-    sym (c.place_of.ensures m.places (subst (λ (rows : List g.row.R.Denot). Lies plain rows s.used.full s.used.top m.places) (sym c.rows.ensures.value) h.lies)) ∙ c.in_default.is in
-    let fault : (m : Meaning g.row.V.Denot) → Was m → set_fault eq g.V.Key.labels m.places l v ≡ None = λ m h.
-    set_free eq g.V.Key.labels m.places l v (g.met.V.Kind.unlabelled v) c.if-at-ge-PLACES.false (ap full (h.lies.vacant l (sym c.if-is_full.ensures))) (new m h) in
-    let rows : g.T.Rows.items t ≡ set (g.T.Rows.items s.table) l (plain v) = c.put.ensures ∙ ap (set (g.T.Rows.items s.table) l) c.row.ensures in
-    let after : (m : Meaning g.row.V.Denot) → Was m → Is (put m l (Some v)) = λ m h.
-    let idle : Idle (set s.used.full l true) u.top = subst (λ (f : List Bool). Idle f u.top) c.fill.ensures.filled (c.fill.ensures.idle h.lies.above) in
-    let there = lies_set plain (g.T.Rows.items s.table) s.used.full s.used.top m.places h.lies l u.top v c.if-at-ge-PLACES.false idle in
-    record {
-      lies = subst (λ (f : List Bool). Lies plain (g.T.Rows.items t) f u.top (set m.places l (Some v))) (sym c.fill.ensures.filled)
-          (subst (λ (r : List g.row.R.Denot). Lies plain r (set s.used.full l true) u.top (set m.places l (Some v))) (sym rows) there);
-      proper = proper_set eq g.V.Key.labels g.met.V.Key.decides m h.proper l v c.if-at-ge-PLACES.false (new m h);
+    let old = g.T.Rows.items s.table in
+    let new = g.T.Rows.items c.put.new.self in
+    let lies = subst (λ (rows : List g.row.R.Denot). Lies plain rows s.used.full m.places) (sym c.rows-rows.ensures.value) h.lies in
+    let found = c.place_of.ensures m.places lies in
+    let none = not_refused (set_refusal l [] c.held-held.result c.place_of.result) tt tt (sym c.check_set.ensures ∙ c.in_ok-check_set.was) in
+    let told = set_told eq g.V.Key.labels m.places l v (g.met.V.Kind.unlabelled v) c.held-held.result c.place_of.result (c.held-held.ensures m.places lies) found in
+    let allowed = set_allowed l c.held-held.result c.place_of.result none in
+    let rows : new ≡ set old l (plain v) = c.put.ensures ∙ ap (set old l) c.row.ensures in
+    subst (λ (o : Option Fault). Shows plain g.T.Rows.items (record s { table = c.put.new.self; used = c.fill.new.self }) (unless o m (put m l (Some v)))) (sym none ∙ told) record {
+      lies = subst (λ (f : List Bool). Lies plain new f (set m.places l (Some v))) (sym c.fill.ensures)
+          (subst (λ (r : List g.row.R.Denot). Lies plain r (set s.used.full l true) (set m.places l (Some v))) (sym rows) (lies_set plain old s.used.full m.places h.lies s.used.idle.size l v allowed.0));
+      proper = proper_set eq g.met.V.Key.laws.decides m h.proper l v allowed.0 (sym found ∙ allowed.2);
       counted = h.counted;
-    } in
-    record {
-      result = λ m h. sym (ap (λ (o : Option Fault). answer o tt) (fault m h));
-      held = λ m h. subst (λ (o : Option Fault). Is (unless o m (put m l (Some v)))) (sym (fault m h)) (after m h);
-      kept = λ e. absurd (false≢true e);
-      asked = λ _ e. e;
-      rest = ap (drop 96) rows ∙ drop-set-lt 96 (g.T.Rows.items s.table) l (plain v) c.if-at-ge-PLACES.false;
     }
+
+pub returns-clause-rest : goal.returns-clause-rest
+returns-clause-rest g c =
+    let none = not_refused (set_refusal c.args.place [] c.held-held.result c.place_of.result) tt tt (sym c.check_set.ensures ∙ c.in_ok-check_set.was) in
+    let allowed = set_allowed c.args.place c.held-held.result c.place_of.result none in
+    ap (drop 96) c.put.ensures ∙ drop-set-lt 96 (g.T.Rows.items c.args.self.now.table) c.args.place c.row.result allowed.0

@@ -1,6 +1,5 @@
-use Rattle.std.proofs.Common.{refl}
 use Rattle.engines.proofs.Lying.{idle_none}
 use Rattle.engines.proofs.used.Used.none.Goals as goal
 
-pub returns : goal.returns
-returns c = record { full = refl; idle = idle_none }
+pub invariant_of-result : goal.invariant_of-result
+invariant_of-result c = record { idle = idle_none }
