@@ -1,2 +1,3 @@
 pub mod Marked
 pub mod Checked
+pub mod Finding

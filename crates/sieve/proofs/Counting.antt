@@ -9,7 +9,7 @@ use Rattle.parts.specs.Meaning.{find}
 use Rattle.stores.specs.declared.pairs.Pair.{Pair}
 use Rattle.stores.specs.Pairs.{code, same_pair}
 use Rattle.stores.specs.Alike.{pair_decides}
-use Rattle.stores.proofs.Finding.{split, find_some, full_within}
+use Rattle.parts.proofs.Finding.{split, find_some, full_within}
 use Rattle.sieve.specs.Touched.{counter, multipliers, spread, has, slots_from, slots, listed, touched, Apart, every}
 use Rattle.sieve.specs.Counted.{count_of, passing, above, one_more, one_fewer, change_all}
 

@@ -1,26 +1,19 @@
 -- A sieve's calls keep what it holds.
-use Rattle.std.specs.Prelude.{◌≡◌, ℕ, ◌+◌, ◌%◌, ◌^◌, ◌<◌, Bool, true, false, cond, List, [], ◌∷◌, ◌++◌, length, replicate, Some, None, Ok, Option, slice_index_or, refl}
-use Rattle.std.proofs.Common.{sym, ap, ◌∙◌, append-nil, arith}
+use Rattle.std.specs.Prelude.{◌≡◌, ℕ, ◌+◌, ◌%◌, ◌^◌, ◌<◌, List, length, replicate, Some, None, Ok, Option, slice_index_or, refl}
+use Rattle.std.proofs.Common.{ap, ◌∙◌, arith}
 use Rattle.std.proofs.lemmas.List.{length-replicate}
 use Rattle.fields.specs.declared.faults.Fault.{Fault}
 use Rattle.fields.specs.Faults.{answer}
 use Rattle.parts.specs.Meaning.{Meaning, meaning, Proper, nothing, put, asked_once}
 use Rattle.stores.specs.declared.pairs.Pair.{Pair}
 use Rattle.sieve.specs.Touched.{slots}
-use Rattle.sieve.specs.Counted.{above, questions, one_more, one_fewer, change_all}
+use Rattle.sieve.specs.Counted.{one_more, one_fewer, change_all}
 use Rattle.sieve.specs.Sieved.{Sieved}
 use Rattle.sieve.proofs.Counting.{counts_set, counts_clear, length_changed, nothing_counted}
 
 pub answer_value : {A : Type 0} (o : Option Fault) (a b : A) → Ok b ≡ answer o a → b ≡ a
 answer_value None a b e = cc
-answer_value (Some f) a b e = absurd (let z : ◌≡◌ {A = ℕ} 0 1 = cc in omega arith)
-
--- what the store below is asked, where the pair passes and where it does not
-pub asked_below : (cs : List ℕ) (p : Pair) (l : List Pair) → above cs p ≡ true → l ++ p ∷ [] ≡ l ++ questions cs p
-asked_below cs p l t = ap (λ (b : Bool). l ++ cond b (p ∷ []) []) (sym t)
-
-pub not_asked : (cs : List ℕ) (p : Pair) (l : List Pair) → above cs p ≡ false → l ≡ l ++ questions cs p
-not_asked cs p l f = sym (append-nil l) ∙ ap (λ (b : Bool). l ++ cond b (p ∷ []) []) (sym f)
+answer_value (Some f) a b e = cc
 
 module _ {B : Type 0} (shows : B → Meaning Pair → Type 0) (proper : (s : B) (m : Meaning Pair) → shows s m → Proper m) where
   pub nothing_sieved : (below : B) → shows below nothing → Sieved shows below (replicate 512 0) 0 nothing

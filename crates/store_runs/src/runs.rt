@@ -32,6 +32,7 @@ pub fn run<S: Store>(
 {
     store.empty();
     let mut replies = Vec::new(heap);
+    // A loop, since after a chain whose closure changes the store nothing is known of the store.
     for call in calls {
         let reply = perform(store, *call);
         replies.push(reply)?;

@@ -1,5 +1,6 @@
 -- Cells lead to the pairs that places hold.
 use Rattle.std.specs.Prelude.{◌≡◌, ℕ, ◌<◌, true, false, List, length, replicate, Some, None, Option, ◌≢◌, slice_index_or, slice_set}
+use Rattle.std.proofs.lemmas.Option.{none-some}
 use Rattle.std.proofs.Common.{sym, subst, ◌∙◌, ⊎_elim, arith, length-set}
 use Rattle.std.proofs.lemmas.List.{get_or-set_same, get_or-set_other, length-replicate}
 use Rattle.std.proofs.lemmas.Bool.{cases_Bool}
@@ -10,7 +11,7 @@ use Rattle.stores.specs.Pairs.{same_pair, Within, code}
 use Rattle.stores.specs.Alike.{pair_decides}
 use Rattle.stores.specs.Places.{Placed, Free}
 use Rattle.stores.specs.Cells.{Celled}
-use Rattle.stores.proofs.Finding.{none_some, full_within, still, put_cases, find_some, none_found, found_at, find_put, find_clear, find_cleared, all_none}
+use Rattle.parts.proofs.Finding.{full_within, still, put_cases, find_some, none_found, found_at, find_put, find_clear, find_cleared, all_none}
 use Rattle.stores.proofs.Storing.{put_placed}
 
 -- pairs that differ have cells that differ
@@ -22,9 +23,9 @@ code_apart p q w u n e =
 
 pub nothing_celled : Celled (replicate 9216 None) (replicate 96 None)
 nothing_celled = record {
-  within = λ i p e. absurd (none_some p (sym (all_none i 96) ∙ e));
+  within = λ i p e. absurd (none-some p (sym (all_none i 96) ∙ e));
   cells_size = length-replicate {A = Option ℕ} 9216 None;
-  cell = λ p w. all_none (code p) 9216 ∙ sym (none_found same_pair pair_decides (replicate 96 None) p (λ n e. none_some p (sym (all_none n 96) ∙ e)));
+  cell = λ p w. all_none (code p) 9216 ∙ sym (none_found same_pair pair_decides (replicate 96 None) p (λ n e. none-some p (sym (all_none n 96) ∙ e)));
 }
 
 module _ (cells : List (Option ℕ)) (pairs : List (Option Pair)) (s : Placed pairs) (h : Celled cells pairs) where

@@ -1,5 +1,6 @@
 -- Chains of places: linking one, unlinking one, and looking for a value along one.
 use Rattle.std.specs.Prelude.{◌≡◌, ℕ, zero, suc, ◌+◌, ◌<◌, ◌≤◌, Bool, true, false, cond, List, [], ◌∷◌, ◌++◌, length, get_or, set, replicate, Some, None, Decides, count_by, Option, ◌==◌, ◌≢◌, nat_eq, slice_index_or, slice_set, refl}
+use Rattle.std.proofs.lemmas.Option.{none-some}
 use Rattle.std.proofs.Common.{sym, ap, subst, ◌∙◌, ⊎_elim, arith, length-append, length-set}
 use Rattle.std.proofs.lemmas.List.{get_or-set_same, get_or-set_other, length-replicate}
 use Rattle.std.proofs.lemmas.List.Sums.{sum_by-set, count_by-le-length}
@@ -8,7 +9,7 @@ use Rattle.std.proofs.lemmas.Bool.Decides.{Decides-eqb}
 use Rattle.std.specs.List.{find as find_in}
 use Rattle.parts.specs.Meaning.{Single, at, find}
 use Rattle.stores.specs.Chains.{Linked, times, Chain, Chained, first_holding}
-use Rattle.stores.proofs.Finding.{none_some, split, at_held, held_at, find_some, find_none, full_within, all_none}
+use Rattle.parts.proofs.Finding.{split, at_held, held_at, find_some, find_none, full_within, all_none}
 
 times_same : (p q : ℕ) (qs : List ℕ) → p ≡ q → times p (q ∷ qs) ≡ 1 + times p qs
 times_same p q qs e = ap (λ (b : Bool). cond b 1 0 + times p qs) (eq-eqb p q e)
@@ -103,7 +104,7 @@ passed_by ns o (q ∷ qs) here p back l f b = ⊎_elim
 -- without its first place
 headless : (hs ns keys hs' : List (Option ℕ)) (p j : ℕ) (d : Chain hs ns keys j) (ps : List ℕ) → p < length keys → d.order ≡ ps → Linked ns (Some p) ps
     → slice_index_or hs' j None ≡ slice_index_or ns p None → ◌≡◌ {A = ℕ} (cond (at nat_eq j (slice_index_or keys p None)) 1 0) 1 → Chain hs' ns (slice_set keys p None) j
-headless hs ns keys hs' p j d [] w e l head was = absurd (none_some p (sym l))
+headless hs ns keys hs' p j d [] w e l head was = absurd (none-some p (sym l))
 headless hs ns keys hs' p j d (q ∷ back) w e l head was =
     let s : p ≡ q = let h = l.0 in cc in
     rechain hs ns keys hs' ns p None j d back w
@@ -206,7 +207,7 @@ module _ {V : Type 0} (eq : V → V → Bool) (decides : (a b : V) → Decides (
       (split (find eq xs v))
 
 begins : (ns : List (Option ℕ)) (p : ℕ) (o : Option ℕ) (ps : List ℕ) → Linked ns o ps → o ≡ Some p → (back : List ℕ) × (ps ≡ p ∷ back)
-begins ns p o [] l e = absurd (none_some p (sym l ∙ e))
+begins ns p o [] l e = absurd (none-some p (sym l ∙ e))
 begins ns p o (q ∷ back) l e =
     let s : Some q ≡ Some p = sym l.0 ∙ e in
     let t : q ≡ p = cc in

@@ -1,28 +1,23 @@
 -- Refusals of a store: what is known where a call is refused, and where it is not.
-use Rattle.std.proofs.Common.{◌≡◌, ℕ, ◌+◌, ◌%◌, ◌^◌, ◌<◌, Bool, true, false, cond, ltb, List, [], ◌∷◌, ◌++◌, length, get_or, Some, None, Ok, Err, Option, sym, refl, ap, ◌∙◌, ⊎_elim, arith, length-append}
-use native.Mathlib.Nat.{mod-add-mod}
-use Rattle.std.proofs.lemmas.List.{get_or_past}
-use Rattle.std.proofs.lemmas.Bool.{cases_Bool, ltb-true, ltb-false}
+use Rattle.std.proofs.Common.{◌≡◌, ℕ, ◌<◌, Bool, true, false, cond, ltb, List, [], ◌∷◌, get_or, Some, None, Ok, Err, Option, sym, refl, ap, ◌∙◌, ⊎_elim, arith}
+use Rattle.std.proofs.lemmas.Option.{none-some}
+use Rattle.std.proofs.lemmas.Bool.{cases_Bool, ltb-false}
 use Rattle.fields.specs.declared.faults.Fault.{Fault}
 use Rattle.fields.specs.declared.faults.Fault.TheVariants.{Label, Full, Elsewhere}
 use Rattle.fields.specs.Faults.{answer, unless, when, first_fault}
-use Rattle.parts.specs.Meaning.{Meaning, find, full, label_fault, elsewhere, set_fault, taken, cleared, put, after_set}
+use Rattle.parts.specs.Meaning.{Meaning, find, full, label_fault, elsewhere, set_fault, taken, put, after_set}
 use Rattle.stores.specs.declared.pairs.Pair.{Pair}
 use Rattle.stores.specs.Pairs.{same_pair, pair_labels, Within}
 use Rattle.parts.specs.Checks.{set_refusal, taken_from}
-use Rattle.stores.proofs.Finding.{none_some, split, set_none}
-
-pub answer_err : {A : Type 0} (o : Option Fault) (a : A) (f : Fault) → answer o a ≡ Err f → o ≡ Some f
-answer_err None a f e = absurd (let z : ◌≡◌ {A = ℕ} 0 1 = cc in omega arith)
-answer_err (Some g) a f e = ap Some (let h : g ≡ f = cc in h)
+use Rattle.parts.proofs.Finding.{split}
 
 pub answer_ok : {A : Type 0} (o : Option Fault) (a b : A) → answer o a ≡ Ok b → o ≡ None
 answer_ok None a b e = refl
-answer_ok (Some g) a b e = absurd (let z : ◌≡◌ {A = ℕ} 0 1 = cc in omega arith)
+answer_ok (Some g) a b e = cc
 
 label_fits : (l : ℕ) (ls : List ℕ) → label_fault (l ∷ ls) ≡ None → (l < 96) × (label_fault ls ≡ None)
 label_fits l ls e = ⊎_elim
-    (λ (t : ltb 95 l ≡ true). absurd (none_some (Label l) (sym e ∙ ap (λ (b : Bool). cond b (Some (Label l)) (label_fault ls)) t)))
+    (λ (t : ltb 95 l ≡ true). absurd (none-some (Label l) (sym e ∙ ap (λ (b : Bool). cond b (Some (Label l)) (label_fault ls)) t)))
     (λ (f : ltb 95 l ≡ false). (omega (arith, ltb-false 95 l f), ap (λ (b : Bool). cond b (Some (Label l)) (label_fault ls)) (sym f) ∙ e))
     (cases_Bool (ltb 95 l))
 
@@ -32,15 +27,15 @@ labels_within v e = let l = label_fits v.left (v.right ∷ []) e in (l.0, (label
 
 first_none : (o : Option Fault) (fs : List (Option Fault)) → first_fault (o ∷ fs) ≡ None → (o ≡ None) × (first_fault fs ≡ None)
 first_none None fs e = (refl, e)
-first_none (Some f) fs e = absurd (none_some f (sym e))
+first_none (Some f) fs e = absurd (none-some f (sym e))
 
 not_full : (place : ℕ) (o : Option Pair) → when (full o) (Full place) ≡ None → o ≡ None
 not_full place None e = refl
-not_full place (Some v) e = absurd (none_some (Full place) (sym e))
+not_full place (Some v) e = absurd (none-some (Full place) (sym e))
 
 nowhere : (o : Option ℕ) → elsewhere o ≡ None → o ≡ None
 nowhere None e = refl
-nowhere (Some l) e = absurd (none_some (Elsewhere l) (sym e))
+nowhere (Some l) e = absurd (none-some (Elsewhere l) (sym e))
 
 -- set is accepted
 pub accepted : (place : ℕ) (v : Pair) (held : Option Pair) (found : Option ℕ) → set_refusal place (pair_labels v) held found ≡ None → (place < 96) × Within v × (held ≡ None) × (found ≡ None)
@@ -62,47 +57,22 @@ refusal_is places place v held found h f = ⊎_elim
     ∙ sym (ap (λ (o : Option Fault). first_fault (o ∷ when (full (get_or places place None)) (Full place) ∷ elsewhere (find same_pair places v) ∷ [])) r.1))
     (split (label_fault (place ∷ pair_labels v)))
 
--- a refused set leaves the meaning as it was, an accepted one puts the pair
-pub set_kept : (m : Meaning Pair) (place : ℕ) (v : Pair) (f : Fault) → set_fault same_pair pair_labels m.places place v ≡ Some f → after_set same_pair pair_labels m place v ≡ m
-set_kept m place v f e = ap (λ (o : Option Fault). unless o m (put m place (Some v))) e
-
 pub set_done : (m : Meaning Pair) (place : ℕ) (v : Pair) → set_fault same_pair pair_labels m.places place v ≡ None → after_set same_pair pair_labels m place v ≡ put m place (Some v)
 set_done m place v e = ap (λ (o : Option Fault). unless o m (put m place (Some v))) e
 
 took : (place : ℕ) (held : Option Pair) (v : Pair) → taken place held ≡ Ok v → held ≡ Some v
-took place None v e = absurd (let z : ◌≡◌ {A = ℕ} 0 1 = cc in omega arith)
+took place None v e = cc
 took place (Some w) v e = ap Some (let h : w ≡ v = cc in h)
-
-none_took : (place : ℕ) (held : Option Pair) (f : Fault) → taken place held ≡ Err f → held ≡ None
-none_took place None f e = refl
-none_took place (Some w) f e = absurd (let z : ◌≡◌ {A = ℕ} 0 1 = cc in omega arith)
 
 -- clear is accepted
 pub taken_ok : (place : ℕ) (held : Option Pair) (v : Pair) → taken_from place held ≡ Ok v → (place < 96) × (held ≡ Some v)
 taken_ok place held v e = ⊎_elim
     (λ (t : ltb 95 place ≡ true).
     let q : Err (Label place) ≡ Ok v = ap (λ (b : Bool). cond b (Err (Label place)) (taken place held)) (sym t) ∙ e in
-    absurd (let z : ◌≡◌ {A = ℕ} 0 1 = cc in omega arith))
+    cc)
     (λ (f : ltb 95 place ≡ false). (omega (arith, ltb-false 95 place f), took place held v (ap (λ (b : Bool). cond b (Err (Label place)) (taken place held)) (sym f) ∙ e)))
     (cases_Bool (ltb 95 place))
-
--- a refused clear finds the place empty, or past the last
-pub taken_err : (places : List (Option Pair)) (place : ℕ) (f : Fault) → length places ≡ 96 → cleared places place ≡ Err f → get_or places place None ≡ None
-taken_err places place f l e = ⊎_elim
-    (λ (t : ltb 95 place ≡ true). get_or_past places place None (omega (arith, ltb-true 95 place t)))
-    (λ (n : ltb 95 place ≡ false). none_took place (get_or places place None) f (ap (λ (b : Bool). cond b (Err (Label place)) (taken place (get_or places place None))) (sym n) ∙ e))
-    (cases_Bool (ltb 95 place))
-
-pub clear_kept : (m : Meaning Pair) (place : ℕ) (f : Fault) → length m.places ≡ 96 → cleared m.places place ≡ Err f → put m place None ≡ m
-clear_kept m place f l e i = record { places = set_none m.places place (taken_err m.places place f l e) i; asked = m.asked }
-
--- one question more, in a list and in the number that counts them
-pub asked_more : (l : List Pair) (n : ℕ) (p : Pair) → n ≡ length l % 2 ^ 32 → (n + 1) % 2 ^ 32 ≡ length (l ++ p ∷ []) % 2 ^ 32
-asked_more l n p e = ap (λ (k : ℕ). (k + 1) % 2 ^ 32) e ∙ mod-add-mod (length l) (2 ^ 32) 1 ∙ ap (λ (k : ℕ). k % 2 ^ 32) (sym (length-append l (p ∷ [])))
 
 -- an accepted find
 pub accepted_find : (o : Option Fault) → o ≡ None → (r s : Option ℕ) → r ≡ s → Ok r ≡ answer o s
 accepted_find o e r s h = ap Ok h ∙ sym (ap (λ (x : Option Fault). answer x s) e)
-
-pub not_refused : (o : Option Fault) → o ≡ None → (f : Fault) → o ≡ Some f → ⊥
-not_refused o e f h = none_some f (sym e ∙ h)

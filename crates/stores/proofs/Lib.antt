@@ -1,4 +1,3 @@
-pub mod Finding
 pub mod Checked
 pub mod Storing
 pub mod Chaining

@@ -1,9 +1,9 @@
 -- A walk along a chain, told by the item at each step.
 use Rattle.std.proofs.Common.{◌≡◌, ℕ, zero, suc, ◌+◌, ◌-◌, ◌<◌, ◌≤◌, Bool, true, false, cond, ◌⊎◌, List, [], ◌∷◌, length, Some, None, Option, IfSome, slice_index_or, sym, refl, ap, ◌∙◌, subst, inl, inr, ⊎_elim, arith}
+use Rattle.std.proofs.lemmas.Option.{none-some}
 use Rattle.std.specs.Option.{IsSomeAnd, option_map}
 use Rattle.std.specs.List.{find}
 use Rattle.stores.specs.Chains.{Linked}
-use Rattle.stores.proofs.Finding.{none_some}
 
 -- the first item is where the chain begins, and each item's place leads to the next item
 pub record Walk (ns : List (Option ℕ)) (o : Option ℕ) (at : ℕ → Option ℕ) : Type 0 where
@@ -24,7 +24,7 @@ with_item P Q None f h = h
 with_item P Q (Some x) f h = f x h
 
 pub there : {A : Type 0} (P : A → Type 0) (o : Option A) (y : A) → option_map (λ x. x) o ≡ Some y → IfSome o P → IsSomeAnd o P
-there P None y e h = absurd (none_some y e)
+there P None y e h = absurd (none-some y e)
 there P (Some x) y e h = h
 
 module _ (ns : List (Option ℕ)) (t : ℕ → Bool) where
@@ -42,10 +42,10 @@ module _ (ns : List (Option ℕ)) (t : ℕ → Bool) where
 
   -- a walk that stops at the first place that passes
   pub found_at : (o : Option ℕ) (ps : List ℕ) (at : ℕ → Option ℕ) (i x : ℕ) → Linked ns o ps → Walk ns o at → at i ≡ Some x → t x ≡ true → ((k : ℕ) → k < i → IsSomeAnd (at k) (λ y. t y ≡ false)) → find t ps ≡ Some x
-  found_at o [] at zero x l w e y b = absurd (none_some x (sym l ∙ starts o at x w e))
+  found_at o [] at zero x l w e y b = absurd (none-some x (sym l ∙ starts o at x w e))
   found_at o [] at (suc i) x l w e y b =
       let z = an_item (λ y. t y ≡ false) (at 0) (b 0 (omega arith)) in
-      absurd (none_some z.0 (sym l ∙ starts o at z.0 w z.1))
+      absurd (none-some z.0 (sym l ∙ starts o at z.0 w z.1))
   found_at o (p ∷ ps) at zero x l w e y b =
       let s : Some p ≡ Some x = sym l.0 ∙ starts o at x w e in
       let q : p ≡ x = cc in
@@ -63,7 +63,7 @@ module _ (ns : List (Option ℕ)) (t : ℕ → Bool) where
   none_at o [] at n l w b ends = refl
   none_at o (p ∷ ps) at zero l w b ends = ⊎_elim
       (λ (few : length (p ∷ ps) ≤ 0). absurd (omega arith))
-      (λ (e : (0 ≡ 0 → o ≡ None) × ((k : ℕ) → 0 ≡ k + 1 → IsSomeAnd (at k) (λ x. slice_index_or ns x None ≡ None))). absurd (none_some p (sym (e.0 refl) ∙ l.0)))
+      (λ (e : (0 ≡ 0 → o ≡ None) × ((k : ℕ) → 0 ≡ k + 1 → IsSomeAnd (at k) (λ x. slice_index_or ns x None ≡ None))). absurd (none-some p (sym (e.0 refl) ∙ l.0)))
       ends
   none_at o (p ∷ ps) at (suc n) l w b ends =
       let z = an_item (λ y. t y ≡ false) (at 0) (b 0 (omega arith)) in

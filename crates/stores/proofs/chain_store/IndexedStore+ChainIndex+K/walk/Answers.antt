@@ -6,13 +6,10 @@ use Rattle.stores.specs.Held.{Walked}
 use Rattle.stores.proofs.Walking.{walked_find}
 use Rattle.stores.proofs.chain_store.IndexedStore+ChainIndex+K.walk.Goals as goal
 
-pub returns : goal.returns
-returns g c =
-    let key = g.K.ChainKey.key in
+pub returns-clause-walked : goal.returns-clause-walked
+returns-clause-walked g c m h = subst (λ (xs : List (Option Pair)). Walked g.K.ChainKey.key c.args.self.now.index.chains xs c.args.pair c.find.result) h.places (c.find.ensures.walked h.placed h.led)
+
+pub returns-clause-found : goal.returns-clause-found
+returns-clause-found g c m h =
     let s = c.args.self.now in
-    let v = c.args.pair in
-    record {
-      walked = λ m h. subst (λ (xs : List (Option Pair)). Walked key s.index.chains xs v c.find.result) h.places (c.find.ensures.walked h.placed h.led);
-      found = λ m h. walked_find key s.index.chains s.pairs v c.find.result h.placed (c.find.ensures.walked h.placed h.led) ∙ ap (λ (xs : List (Option Pair)). find same_pair xs v) h.places;
-      below = c.find.ensures.below;
-    }
+    walked_find g.K.ChainKey.key s.index.chains s.pairs c.args.pair c.find.result h.placed (c.find.ensures.walked h.placed h.led) ∙ ap (λ (xs : List (Option Pair)). find same_pair xs c.args.pair) h.places

@@ -2,7 +2,7 @@ use Rattle.std.proofs.Common.{◌≡◌, ℕ, ◌-◌, ◌<◌, ◌≤◌, true,
 use Rattle.std.proofs.lemmas.Option.{MatchOption-at_some, MatchOption-at_none}
 use Rattle.std.specs.Option.{IsSomeAnd, option_map}
 use Rattle.std.proofs.lemmas.Bool.{cases_lt}
-use Rattle.stores.proofs.Finding.{split}
+use Rattle.parts.proofs.Finding.{split}
 use Rattle.stores.proofs.Steps.{Walk, if_some, with_item, there, found_at, none_at}
 use Rattle.stores.proofs.chains.Chains.first_passing.Goals as goal
 

@@ -1,8 +1,8 @@
 use Rattle.std.proofs.Common.{◌≡◌, ℕ, ◌≤◌, List, length, get_or, set, Some, None, Option, nat_eq, sym, ap, ◌∙◌, subst, rules}
+use Rattle.std.proofs.lemmas.Option.{none-some}
 use Rattle.std.specs.List.{find as find_in}
 use Rattle.parts.specs.Meaning.{at}
 use Rattle.stores.specs.Chains.{Linked, Chained}
-use Rattle.stores.proofs.Finding.{none_some}
 use Rattle.stores.proofs.Chaining.{unlinked_first, unlinked_later}
 use Rattle.stores.proofs.chains.Chains.unlink.Goals as goal
 
@@ -40,4 +40,4 @@ returns-in_default c keys h held =
     let found : (ps : List ℕ) → Linked ns (get_or hs k None) ps → length ps ≤ 96 → c.first_passing-prior.result ≡ find_in (λ n. at nat_eq p (get_or ns n None)) ps
     = λ ps l few. c.first_passing-prior.ensures.found ps (λ n. at nat_eq p (get_or ns n None)) (subst (λ (o : Option ℕ). Linked ns o ps) (sym c.entry_at-first.ensures) l) few (λ n b w. search rules) in
     let r = unlinked_later hs ns keys k p h held other c.first_passing-prior.result found in
-    absurd (none_some r.0 (sym c.in_default.is ∙ r.1))
+    absurd (none-some r.0 (sym c.in_default.is ∙ r.1))

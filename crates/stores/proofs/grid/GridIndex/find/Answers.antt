@@ -3,7 +3,7 @@ use Rattle.std.proofs.lemmas.Option.{MatchOption-at_some, MatchOption-at_none}
 use borrow.Author.Tests.{tests}
 use Rattle.std.specs.Bool.{then_some}
 use Rattle.stores.specs.Pairs.{code}
-use Rattle.stores.proofs.Finding.{split}
+use Rattle.parts.proofs.Finding.{split}
 use Rattle.stores.proofs.Celling.{celled_below}
 use Rattle.stores.proofs.grid.GridIndex.find.Goals as goal
 

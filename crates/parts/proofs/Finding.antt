@@ -1,12 +1,10 @@
 -- The label at which a value is held, told by what the places hold.
 use Rattle.std.specs.Prelude.{◌≡◌, ℕ, zero, suc, ◌+◌, ◌<◌, ◌≤◌, Bool, true, false, cond, ◌⊎◌, List, [], ◌∷◌, length, get_or, set, Some, None, Decides, Option, ◌≢◌, slice_index_or, slice_set, replicate, refl}
+use Rattle.std.proofs.lemmas.Option.{none-some}
 use Rattle.std.proofs.Common.{sym, ap, subst, ◌∙◌, inl, inr, ⊎_elim, arith}
 use Rattle.std.proofs.lemmas.List.{get_or-set_same, get_or-set_other, get_or_past, set_past, set-get_or, get_or-replicate, length-replicate}
 use Rattle.std.proofs.lemmas.Bool.{cases_Bool, cases_eq, cases_lt, false≢true}
 use Rattle.parts.specs.Meaning.{Single, at, find, find_from}
-
-pub none_some : {V : Type 0} (v : V) → ◌≡◌ {A = Option V} None (Some v) → ⊥
-none_some v e = let z : ◌≡◌ {A = ℕ} 0 1 = cc in omega arith
 
 pub split : {V : Type 0} (o : Option V) → (o ≡ None) ⊎ ((v : V) × (o ≡ Some v))
 split None = inl refl
@@ -18,14 +16,14 @@ set_none {V} xs l e = ap (λ (o : Option V). set xs l o) (sym e) ∙ set-get_or 
 
 -- a full place is a place
 pub full_within : {V : Type 0} (xs : List (Option V)) (l : ℕ) (v : V) → slice_index_or xs l None ≡ Some v → l < length xs
-full_within xs l v e = ⊎_elim (λ (h : l < length xs). h) (λ (h : length xs ≤ l). absurd (none_some v (sym (get_or_past xs l None h) ∙ e))) (cases_lt l (length xs))
+full_within xs l v e = ⊎_elim (λ (h : l < length xs). h) (λ (h : length xs ≤ l). absurd (none-some v (sym (get_or_past xs l None h) ∙ e))) (cases_lt l (length xs))
 
 -- what is held after a place was emptied was held before
 pub still : {V : Type 0} (xs : List (Option V)) (l i : ℕ) (v : V) → slice_index_or (slice_set xs l None) i None ≡ Some v → (slice_index_or xs i None ≡ Some v) × (i ≢ l)
 still {V} xs l i v h = ⊎_elim
     (λ (e : i ≡ l). ⊎_elim
-    (λ (w : l < length xs). absurd (none_some v (sym (get_or-set_same xs l None None w) ∙ subst (λ (k : ℕ). slice_index_or (slice_set xs l None) k None ≡ Some v) e h)))
-    (λ (p : length xs ≤ l). absurd (none_some v (sym (get_or_past xs i None (omega arith)) ∙ subst (λ (ys : List (Option V)). slice_index_or ys i None ≡ Some v) (set_past xs l None p) h)))
+    (λ (w : l < length xs). absurd (none-some v (sym (get_or-set_same xs l None None w) ∙ subst (λ (k : ℕ). slice_index_or (slice_set xs l None) k None ≡ Some v) e h)))
+    (λ (p : length xs ≤ l). absurd (none-some v (sym (get_or_past xs i None (omega arith)) ∙ subst (λ (ys : List (Option V)). slice_index_or ys i None ≡ Some v) (set_past xs l None p) h)))
     (cases_lt l (length xs)))
     (λ (n : i ≡ l → ⊥). (sym (get_or-set_other xs l i None None n) ∙ h, n))
     (cases_eq i l)
@@ -64,7 +62,7 @@ module _ {V : Type 0} (eq : V → V → Bool) (decides : (a b : V) → Decides (
   held_at v o e = ap (λ (x : Option V). at eq v x) e ∙ (decides v v).1 refl
 
   found_from : (v : V) (i : ℕ) (xs : List (Option V)) (l : ℕ) → find_from eq v i xs ≡ Some l → (n : ℕ) × (l ≡ i + n) × (slice_index_or xs n None ≡ Some v)
-  found_from v i [] l e = absurd (none_some l e)
+  found_from v i [] l e = absurd (none-some l e)
   found_from v i (x ∷ xs) l e = ⊎_elim
       (λ (t : at eq v x ≡ true). let q : Some i ≡ Some l = ap (λ (b : Bool). cond b (Some i) (find_from eq v (i + 1) xs)) (sym t) ∙ e in
       let z : i ≡ l = cc in (0, omega arith, at_held v x t))
@@ -77,10 +75,10 @@ module _ {V : Type 0} (eq : V → V → Bool) (decides : (a b : V) → Decides (
   find_some xs v l e = let r = found_from v 0 xs l e in subst (λ (k : ℕ). slice_index_or xs k None ≡ Some v) (omega (arith, r.1)) r.2
 
   none_from : (v : V) (i : ℕ) (xs : List (Option V)) → find_from eq v i xs ≡ None → (n : ℕ) → slice_index_or xs n None ≢ Some v
-  none_from v i [] e n h = none_some v h
-  none_from v i (x ∷ xs) e zero h = none_some i (sym e ∙ ap (λ (b : Bool). cond b (Some i) (find_from eq v (i + 1) xs)) (held_at v x h))
+  none_from v i [] e n h = none-some v h
+  none_from v i (x ∷ xs) e zero h = none-some i (sym e ∙ ap (λ (b : Bool). cond b (Some i) (find_from eq v (i + 1) xs)) (held_at v x h))
   none_from v i (x ∷ xs) e (suc n) h = ⊎_elim
-      (λ (t : at eq v x ≡ true). none_some i (sym e ∙ ap (λ (b : Bool). cond b (Some i) (find_from eq v (i + 1) xs)) t))
+      (λ (t : at eq v x ≡ true). none-some i (sym e ∙ ap (λ (b : Bool). cond b (Some i) (find_from eq v (i + 1) xs)) t))
       (λ (f : at eq v x ≡ false). none_from v (i + 1) xs (ap (λ (b : Bool). cond b (Some i) (find_from eq v (i + 1) xs)) (sym f) ∙ e) n h)
       (cases_Bool (at eq v x))
 
@@ -111,7 +109,7 @@ module _ {V : Type 0} (eq : V → V → Bool) (decides : (a b : V) → Decides (
       (λ (r : (j : ℕ) × (find eq xs w ≡ Some j)).
       let j = r.0 in
       let held = find_some xs w j r.1 in
-      let n : j ≡ l → ⊥ = λ e. none_some w (sym free ∙ subst (λ (k : ℕ). slice_index_or xs k None ≡ Some w) e held) in
+      let n : j ≡ l → ⊥ = λ e. none-some w (sym free ∙ subst (λ (k : ℕ). slice_index_or xs k None ≡ Some w) e held) in
       let kept : get_or (slice_set xs l (Some v)) j None ≡ Some w = get_or-set_other xs l j (Some v) None n ∙ held in
       ⊎_elim
       (λ (e : find eq (slice_set xs l (Some v)) w ≡ None). absurd (find_none (slice_set xs l (Some v)) w e j kept))
