@@ -1,5 +1,5 @@
 -- Labels balance: what comes into use is freed again or still in use.
-use Rattle.std.proofs.Common.{◌≡◌, ℕ, ◌+◌, Bool, true, false, cond, ◌||◌, List, [], ◌∷◌, map, Some, None, Ok, Err, Decides, fold, Option, Result, sym, refl, ap, ◌∙◌, subst, arith}
+use Rattle.std.proofs.Common.{◌≡◌, ℕ, ◌+◌, Bool, true, false, cond, ◌||◌, List, [], ◌∷◌, map, Some, None, Decides, fold, Option, Result, sym, refl, ap, ◌∙◌, subst, arith}
 use Rattle.std.proofs.lemmas.Bool.Decides.{same_from_decides, Decides-like}
 use Rattle.fields.specs.declared.faults.Fault.{Fault}
 use Rattle.fields.specs.Faults.{unless, answer as answer_or_fault}
@@ -26,10 +26,7 @@ grown_map k x (here xs) = here (map k xs)
 grown_map k x (there y xs ys g) = there (k y) (map k xs) (map k ys) (grown_map k x g)
 
 bits : (a a' b c : Bool) (m n : ℕ) → a ≡ a' → (a ≡ true → b ≡ c) → m ≡ cond c 0 1 + n → cond (a || b) 0 1 + m ≡ cond (a' || c) 0 1 + (cond b 0 1 + n)
-bits true true b c m n e same h = let k = ap (λ (t : Bool). cond {A = ℕ} t 0 1) (same refl) in omega arith
-bits true false b c m n e same h = absurd (let z : ◌≡◌ {A = ℕ} 0 1 = cc in omega arith)
-bits false true b c m n e same h = absurd (let z : ◌≡◌ {A = ℕ} 0 1 = cc in omega arith)
-bits false false b c m n e same h = omega arith
+bits a a' b c m n e same h = grind arith
 
 module _ {K : Type 0} (eq : K → K → Bool) (law : (a b : K) → Decides (eq a b) (a ≡ b)) where
   turned : (a b : K) → eq a b ≡ eq b a
@@ -38,12 +35,7 @@ module _ {K : Type 0} (eq : K → K → Bool) (law : (a b : K) → Decides (eq a
   some_grown : (p : K → Bool) (x : K) {xs ys : List K} → Grown x xs ys → some p ys ≡ (p x || some p xs)
   some_grown p x (here xs) = refl
   some_grown p x (there y xs ys g) =
-      ap (λ (b : Bool). p y || b) (some_grown p x g) ∙ swap (p y) (p x) (some p xs)
-    where
-      swap : (a b c : Bool) → (a || (b || c)) ≡ (b || (a || c))
-      swap true true c = refl
-      swap true false c = refl
-      swap false b c = refl
+      grind (arith, some_grown p x g)
 
   -- an element counts if none of the others is the same
   different_grown : (x : K) {xs ys : List K} → Grown x xs ys → different eq (λ _. true) ys ≡ cond (some (eq x) xs) 0 1 + different eq (λ _. true) xs
@@ -58,7 +50,7 @@ put_grown f [] = here []
 put_grown f (g ∷ gs) = put_cases f g gs (Grown f (g ∷ gs)) (λ e. here (g ∷ gs)) (λ e. there g gs (put f gs) (put_grown f gs))
 
 pub without_grown : (id : ℕ) (f : FilterRow) (fs : List FilterRow) → of_identifier id fs ≡ Some f → Grown f (without id fs) fs
-without_grown id f [] h = absurd (let z : ◌≡◌ {A = ℕ} 0 1 = cc in omega arith)
+without_grown id f [] h = grind arith
 without_grown id f (g ∷ gs) h = by_test (same_identifier id g) h (without_grown id f gs)
   where
     by_test : (b : Bool) → cond b (Some g) (of_identifier id gs) ≡ Some f → (of_identifier id gs ≡ Some f → Grown f (without id gs) gs) → Grown f (cond b gs (g ∷ without id gs)) (g ∷ gs)
@@ -89,11 +81,7 @@ lost kss fs (Search h r room) = 0
 
 unchanged : (id : ℕ) (fs : List FilterRow) → of_identifier id fs ≡ None → without id fs ≡ fs
 unchanged id [] h = refl
-unchanged id (g ∷ gs) h = by_test (same_identifier id g) h (unchanged id gs)
-  where
-    by_test : (b : Bool) → cond b (Some g) (of_identifier id gs) ≡ None → (of_identifier id gs ≡ None → without id gs ≡ gs) → cond b gs (g ∷ without id gs) ≡ g ∷ gs
-    by_test true e rest = absurd (let z : ◌≡◌ {A = ℕ} 0 1 = cc in omega arith)
-    by_test false e rest = ap (λ (l : List FilterRow). g ∷ l) (rest e)
+unchanged id (g ∷ gs) h = grind (arith, unchanged id gs)
 
 taken_out : (kss : List (List ℕ)) (id : ℕ) (fs : List FilterRow) (o : Option FilterRow) → of_identifier id fs ≡ o → total (in_use fs) kss ≡ if_any (λ f. total (alone f (without id fs)) kss) o + total (in_use (without id fs)) kss
 taken_out kss id fs None h = let e = ap (λ (l : List FilterRow). total (in_use l) kss) (unchanged id fs h) in omega arith
@@ -103,13 +91,8 @@ step : (kss : List (List ℕ)) (fs : List FilterRow) (call : Call) → gained ks
 step kss fs (Add f) = by_refusal (refusal fs (Add f))
   where
     by_refusal : (o : Option Fault) → unless o 0 (total (alone f fs) kss) + total (in_use fs) kss ≡ 0 + total (in_use (unless o fs (put f fs))) kss
-    by_refusal None = let e = labels_grown kss f fs (put f fs) (put_grown f fs) in omega arith
-    by_refusal (Some x) = refl
-step kss fs (Remove id) = by_refusal (refusal fs (Remove id))
-  where
-    by_refusal : (o : Option Fault) → 0 + total (in_use fs) kss ≡ unless o 0 (if_any (λ f. total (alone f (without id fs)) kss) (of_identifier id fs)) + total (in_use (unless o fs (without id fs))) kss
-    by_refusal None = let e = taken_out kss id fs (of_identifier id fs) refl in omega arith
-    by_refusal (Some x) = refl
+    by_refusal o = grind (arith, labels_grown kss f fs (put f fs) (put_grown f fs))
+step kss fs (Remove id) = grind (arith, taken_out kss id fs (of_identifier id fs) refl)
 step kss fs (Inspect id p) = refl
 step kss fs (Search h r room) = refl
 
@@ -124,38 +107,23 @@ run kss order up down is_up is_down fs (c ∷ cs) =
     let r = run kss order up down is_up is_down (after fs c) cs in
     omega arith
 
--- what a count reads off an answer that is not refused, and 0 off a refusal
-read : (n : Result Reply Fault → ℕ) → ((e : Fault) → n (Err e) ≡ 0) → (r : Reply) (o : Option Fault) → n (answer_or_fault o r) ≡ unless o 0 (n (Ok r))
-read n none r None = refl
-read n none r (Some e) = none e
-
-read_none : (n : Result Reply Fault → ℕ) → ((e : Fault) → n (Err e) ≡ 0) → (r : Reply) → n (Ok r) ≡ 0 → (o : Option Fault) → n (answer_or_fault o r) ≡ 0
-read_none n none r h None = h
-read_none n none r h (Some e) = none e
-
 new_fields : (order : List ℕ) (fs : List FilterRow) (c : Call) → new_in_fields (answer order fs c) ≡ gained fields fs c
-new_fields order fs (Add f) = read new_in_fields (λ _. refl) (replies order fs (Add f)) (refusal fs (Add f))
-new_fields order fs (Remove id) = read_none new_in_fields (λ _. refl) (replies order fs (Remove id)) refl (refusal fs (Remove id))
-new_fields order fs (Inspect id p) = read_none new_in_fields (λ _. refl) (replies order fs (Inspect id p)) refl (refusal fs (Inspect id p))
-new_fields order fs (Search h r room) = read_none new_in_fields (λ _. refl) (replies order fs (Search h r room)) refl (refusal fs (Search h r room))
+new_fields order fs (Add f) = by_refusal (refusal fs (Add f))
+  where
+    by_refusal : (o : Option Fault) → new_in_fields (answer_or_fault o (replies order fs (Add f))) ≡ unless o 0 (total (alone f fs) fields)
+    by_refusal o = grind arith
+new_fields order fs (Remove id) = grind arith
+new_fields order fs (Inspect id p) = grind arith
+new_fields order fs (Search h r room) = grind arith
 
 new_nodes : (order : List ℕ) (fs : List FilterRow) (c : Call) → new_at_nodes (answer order fs c) ≡ gained (nodes order) fs c
-new_nodes order fs (Add f) = read new_at_nodes (λ _. refl) (replies order fs (Add f)) (refusal fs (Add f))
-new_nodes order fs (Remove id) = read_none new_at_nodes (λ _. refl) (replies order fs (Remove id)) refl (refusal fs (Remove id))
-new_nodes order fs (Inspect id p) = read_none new_at_nodes (λ _. refl) (replies order fs (Inspect id p)) refl (refusal fs (Inspect id p))
-new_nodes order fs (Search h r room) = read_none new_at_nodes (λ _. refl) (replies order fs (Search h r room)) refl (refusal fs (Search h r room))
+new_nodes order fs c = grind arith
 
 freed_fields : (order : List ℕ) (fs : List FilterRow) (c : Call) → freed_in_fields (answer order fs c) ≡ lost fields fs c
-freed_fields order fs (Add f) = read_none freed_in_fields (λ _. refl) (replies order fs (Add f)) refl (refusal fs (Add f))
-freed_fields order fs (Remove id) = read freed_in_fields (λ _. refl) (replies order fs (Remove id)) (refusal fs (Remove id))
-freed_fields order fs (Inspect id p) = read_none freed_in_fields (λ _. refl) (replies order fs (Inspect id p)) refl (refusal fs (Inspect id p))
-freed_fields order fs (Search h r room) = read_none freed_in_fields (λ _. refl) (replies order fs (Search h r room)) refl (refusal fs (Search h r room))
+freed_fields order fs c = grind arith
 
 freed_nodes : (order : List ℕ) (fs : List FilterRow) (c : Call) → freed_at_nodes (answer order fs c) ≡ lost (nodes order) fs c
-freed_nodes order fs (Add f) = read_none freed_at_nodes (λ _. refl) (replies order fs (Add f)) refl (refusal fs (Add f))
-freed_nodes order fs (Remove id) = read freed_at_nodes (λ _. refl) (replies order fs (Remove id)) (refusal fs (Remove id))
-freed_nodes order fs (Inspect id p) = read_none freed_at_nodes (λ _. refl) (replies order fs (Inspect id p)) refl (refusal fs (Inspect id p))
-freed_nodes order fs (Search h r room) = read_none freed_at_nodes (λ _. refl) (replies order fs (Search h r room)) refl (refusal fs (Search h r room))
+freed_nodes order fs c = grind arith
 
 -- at first nothing is in use
 none_in_use : (kss : List (List ℕ)) → total (in_use []) kss ≡ 0

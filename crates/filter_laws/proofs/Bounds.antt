@@ -1,9 +1,9 @@
 -- How many labels a call reports.
-use Rattle.std.proofs.Common.{◌≡◌, ℕ, zero, suc, ◌+◌, ◌-◌, ◌≤◌, Bool, true, false, cond, ◌||◌, eqb, List, [], ◌∷◌, ◌++◌, map, length, IfOk, Some, None, Option, sym, refl, ap, ◌∙◌, subst, ⊎_elim, arith}
+use Rattle.std.proofs.Common.{◌≡◌, ℕ, zero, suc, ◌+◌, ◌-◌, ◌≤◌, Bool, true, false, cond, eqb, List, [], ◌∷◌, ◌++◌, map, length, IfOk, Some, None, Option, sym, refl, ap, ◌∙◌, subst, ⊎_elim, arith}
 use Rattle.std.specs.List.{AllByRecursion}
 use Rattle.std.proofs.ByRecursion.{All-weaker}
 use Rattle.std.proofs.lemmas.List.{take_all, map_push}
-use Rattle.std.proofs.lemmas.Bool.{cases_Bool, eqb-true, or_from, both_ways}
+use Rattle.std.proofs.lemmas.Bool.{cases_Bool, eqb-true, or_from}
 use Rattle.fields.specs.declared.faults.Fault.{Fault}
 use Rattle.fields.specs.Faults.{answer as answer_or_fault}
 use Rattle.fields.specs.Orders.{field_count, times, EachOnce}
@@ -25,17 +25,13 @@ use Rattle.filter_laws.proofs.Ordering.{same_turned, ordered_standing}
 use Rattle.filter_laws.proofs.Balance.{Grown, here, there, without_grown}
 
 -- at most one label at each place
-bit_le : (b : Bool) → cond {A = ℕ} b 0 1 ≤ 1
-bit_le true = omega arith
-bit_le false = omega arith
-
 alone_le : (f : FilterRow) (fs : List FilterRow) (kss : List (List ℕ)) → total (alone f fs) kss ≤ length kss
 alone_le f fs [] = omega arith
-alone_le f fs (ks ∷ kss) = let b = bit_le (some (same_row (row ks f)) (rows ks fs)) in let r = alone_le f fs kss in omega arith
+alone_le f fs (ks ∷ kss) = grind (arith, alone_le f fs kss)
 
 total_last : (n : List ℕ → ℕ) (g : ℕ → List ℕ) (xs : List ℕ) (x : ℕ) → n (g x) ≤ total n (map g (xs ++ x ∷ []))
 total_last n g [] x = omega arith
-total_last n g (y ∷ xs) x = let r = total_last n g xs x in omega arith
+total_last n g (y ∷ xs) x = grind (arith, total_last n g xs x)
 
 -- the last node combines all fields, so a row there is all values
 module _ (f g : FilterRow) where
@@ -83,12 +79,8 @@ grown_apart R turned f (here xs) h = h.0
 grown_apart R turned f (there y xs ys g) h = (turned y f (grown_all (R y) f g h.0), grown_apart R turned f g h.1)
 
 found : (id : ℕ) (fs : List FilterRow) → some (same_identifier id) fs ≡ true → of_identifier id fs ≡ None → ⊥
-found id [] h n = both_ways false refl h
-found id (g ∷ gs) h n = by_test (same_identifier id g) h n (found id gs)
-  where
-    by_test : (b : Bool) → (b || some (same_identifier id) gs) ≡ true → cond b (Some g) (of_identifier id gs) ≡ None → (some (same_identifier id) gs ≡ true → of_identifier id gs ≡ None → ⊥) → ⊥
-    by_test true t e rest = let z : ◌≡◌ {A = ℕ} 0 1 = cc in omega arith
-    by_test false t e rest = rest t e
+found id [] h n = grind arith
+found id (g ∷ gs) h n = grind (arith, found id gs)
 
 made_from : (o : Option Fault) (r : Reply) → (o ≡ None → InBounds r) → IfOk (answer_or_fault o r) InBounds
 made_from None r h = h refl

@@ -3,18 +3,15 @@ use Rattle.std.proofs.Common.{◌≡◌, true, List, [], ◌∷◌, sym, refl, a
 use Rattle.std.proofs.lemmas.Bool.{both_ways}
 use Rattle.filters.specs.declared.rows.FilterRow.{FilterRow}
 use Rattle.filters.specs.declared.calls.Call.{Call}
-use Rattle.filters.specs.Counting.{Among, Pairwise}
+use Rattle.filters.specs.Counting.{Among}
 use Rattle.filters.specs.Filters.{ranks_ahead}
 use Rattle.filters.specs.Standing.{refusal, standing}
 use Rattle.filters.specs.Scans.{scan}
 use Rattle.filters.specs.Answers.{answer}
 use Rattle.filter_laws.specs.Relations.{SameFilters, Alike}
-use Rattle.filter_laws.proofs.Ranks.{ahead_irreflexive, ahead_asymmetric}
+use Rattle.filter_laws.proofs.Ranks.{Ranked, ahead_irreflexive, ahead_asymmetric}
 use Rattle.filter_laws.proofs.Edits.{all_among}
 use Rattle.filter_laws.proofs.Ordering.{ordered_standing}
-
-abbrev Ranked : List FilterRow → Type 0
-Ranked fs = Pairwise (λ f g. ranks_ahead f g ≡ true) fs
 
 -- the first of a list ranks ahead of all behind it, so it is none of them
 not_behind : (x f : FilterRow) (xs : List FilterRow) → Ranked (x ∷ xs) → Among f xs → x ≡ f → ⊥

@@ -1,7 +1,8 @@
 -- A filter stands exactly if an add of it was accepted, and no later removal of its identifier was.
 use Rattle.std.proofs.Common.{◌≡◌, ℕ, zero, suc, ◌<◌, ◌≤◌, ◌⊎◌, List, [], ◌∷◌, ◌++◌, length, take, Some, None, sym, refl, ap, ◌∙◌, subst, inl, inr, ⊎_elim, append_assoc, arith}
 use Rattle.std.specs.List.{slice_get}
-use Rattle.std.proofs.lemmas.List.{take_at, take-append-le, append-nil}
+use Rattle.std.proofs.lemmas.List.{length_push, take_at, take-append-le, append-nil}
+use Rattle.std.proofs.lemmas.Option.{slice_get_within, slice_get_past}
 use Rattle.std.proofs.lemmas.List.Sums.{fold_push}
 use Rattle.std.proofs.lemmas.Bool.{cases_order}
 use Rattle.filters.specs.declared.rows.FilterRow.{FilterRow}
@@ -14,11 +15,6 @@ use Rattle.filter_laws.proofs.Edits.{unless_cases, put_new, put_old, put_either,
 use Rattle.filter_laws.proofs.Ordering.{ordered_standing}
 
 -- the calls of p and one more
-nth_below : (p : List Call) (i : ℕ) (x : Call) → slice_get p i ≡ Some x → i < length p
-nth_below [] i x h = absurd (let z : ◌≡◌ {A = ℕ} 0 1 = cc in omega arith)
-nth_below (c ∷ p) zero x h = omega arith
-nth_below (c ∷ p) (suc i) x h = let r = nth_below p i x h in omega arith
-
 nth_front : (p q : List Call) (i : ℕ) → i < length p → slice_get (p ++ q) i ≡ slice_get p i
 nth_front [] q i l = absurd (omega arith)
 nth_front (c ∷ p) q zero l = refl
@@ -29,10 +25,7 @@ nth_last [] c = refl
 nth_last (x ∷ p) c = nth_last p c
 
 nth_behind : (p : List Call) (c : Call) (i : ℕ) → length p < i → slice_get (p ++ c ∷ []) i ≡ None
-nth_behind [] c zero l = absurd (omega arith)
-nth_behind [] c (suc i) l = refl
-nth_behind (x ∷ p) c zero l = absurd (omega arith)
-nth_behind (x ∷ p) c (suc i) l = nth_behind p c i (omega arith)
+nth_behind p c i l = slice_get_past (p ++ c ∷ []) i (omega (arith, length_push p c))
 
 module _ (p : List Call) (c : Call) where
   abbrev more : List Call
@@ -60,7 +53,7 @@ module _ (p : List Call) (c : Call) where
 
   extend : (f : FilterRow) → Added p f → (c ≡ Remove f.identifier → Accepts p (Remove f.identifier) → ⊥) → Added more f
   extend f a stays =
-      let below = nth_below p a.at (Add f) a.added in
+      let below = slice_get_within p a.at (Add f) a.added in
       record {
         at = a.at;
         added = nth_front p (c ∷ []) a.at below ∙ a.added;
@@ -88,7 +81,7 @@ module _ (p : List Call) (c : Call) where
           at = a.at;
           added = h.1;
           accepted = earlier a.at (Add f) (omega arith) a.accepted;
-          kept = λ j past is ok. let l = nth_below p j (Remove f.identifier) is in a.kept j past (nth_front p (c ∷ []) j l ∙ is) (later j (Remove f.identifier) (omega arith) ok);
+          kept = λ j past is ok. let l = slice_get_within p j (Remove f.identifier) is in a.kept j past (nth_front p (c ∷ []) j l ∙ is) (later j (Remove f.identifier) (omega arith) ok);
         },
         (λ e ok. a.kept (length p) below (nth_last p c ∙ ap Some e) (subst (λ (q : List Call). Accepts q (Remove f.identifier)) (sym (take_at p (c ∷ []) (length p) refl)) ok)),
       ))
@@ -103,8 +96,8 @@ stood_after : (p : List Call) (c : Call) → Told p → (f : FilterRow) → Amon
 stood_after p (Add g) told f m =
     unless_cases (refusal (standing p) (Add g)) (standing p) (put g (standing p)) (λ l. Among f l → Added (p ++ Add g ∷ []) f)
     (λ ok n. ⊎_elim (λ e. begin p (Add g) f (ap Add e) (subst (λ (x : FilterRow). refusal (standing p) (Add x) ≡ None) e ok))
-    (λ old. extend p (Add g) f ((told f).0 old) (λ e _. let z : ◌≡◌ {A = ℕ} 0 1 = cc in omega arith)) (put_either g f (standing p) n))
-    (λ e h n. extend p (Add g) f ((told f).0 n) (λ e' _. let z : ◌≡◌ {A = ℕ} 0 1 = cc in omega arith)) m
+    (λ old. extend p (Add g) f ((told f).0 old) (λ e _. grind arith)) (put_either g f (standing p) n))
+    (λ e h n. extend p (Add g) f ((told f).0 n) (λ e' _. grind arith)) m
 stood_after p (Remove id) told f m =
     unless_cases (refusal (standing p) (Remove id)) (standing p) (without id (standing p)) (λ l. Among f l → Added (p ++ Remove id ∷ []) f)
     (λ ok l. extend p (Remove id) f ((told f).0 (without_old id f (standing p) l))
@@ -113,8 +106,8 @@ stood_after p (Remove id) told f m =
     (λ e' ok. let n : id ≡ f.identifier = cc in
     let both : Some e ≡ None = sym h ∙ subst (λ (k : ℕ). refusal (standing p) (Remove k) ≡ None) (sym n) ok in
     let z : ◌≡◌ {A = ℕ} 0 1 = cc in omega arith)) m
-stood_after p (Inspect id q) told f m = extend p (Inspect id q) f ((told f).0 m) (λ e _. let z : ◌≡◌ {A = ℕ} 0 1 = cc in omega arith)
-stood_after p (Search h r room) told f m = extend p (Search h r room) f ((told f).0 m) (λ e _. let z : ◌≡◌ {A = ℕ} 0 1 = cc in omega arith)
+stood_after p (Inspect id q) told f m = extend p (Inspect id q) f ((told f).0 m) (λ e _. grind arith)
+stood_after p (Search h r room) told f m = extend p (Search h r room) f ((told f).0 m) (λ e _. grind arith)
 
 stays_after : (p : List Call) (c : Call) (f : FilterRow) → Among f (standing p) → (c ≡ Remove f.identifier → refusal (standing p) (Remove f.identifier) ≡ None → ⊥) → Among f (after (standing p) c)
 stays_after p (Add g) f m stays =

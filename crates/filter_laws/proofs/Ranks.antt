@@ -1,8 +1,12 @@
 -- Rank is a strict order, total on filters of different identifiers.
-use Rattle.std.proofs.Common.{◌≡◌, true, false, arith}
+use Rattle.std.proofs.Common.{◌≡◌, true, false, List, arith}
 use Rattle.std.proofs.lemmas.Bool.Decides.{nat_tests}
 use Rattle.filters.specs.declared.rows.FilterRow.{FilterRow}
+use Rattle.filters.specs.Counting.{Pairwise}
 use Rattle.filters.specs.Filters.{ranks_ahead}
+
+abbrev pub Ranked : List FilterRow → Type 0
+Ranked fs = Pairwise (λ f g. ranks_ahead f g ≡ true) fs
 
 pub ahead_irreflexive : (f : FilterRow) → ranks_ahead f f ≡ false
 ahead_irreflexive f = grind (arith, nat_tests)

@@ -1,18 +1,18 @@
 -- What a scan of filters in rank order gives.
-use Rattle.std.proofs.Common.{◌≡◌, ℕ, zero, suc, ◌+◌, min, Bool, true, false, cond, ◌⊎◌, List, [], ◌∷◌, length, take, drop, Some, None, filter, refl, ap, ◌∙◌, subst, inl, inr, ⊎_elim, arith, length-take}
+use Rattle.std.proofs.Common.{◌≡◌, ℕ, zero, suc, min, Bool, true, false, cond, ◌⊎◌, List, [], ◌∷◌, length, take, drop, Some, None, filter, refl, ap, ◌∙◌, subst, inl, inr, ⊎_elim, arith, length-take}
 use Rattle.std.proofs.ByRecursion.{all_kept_by, All-take}
 use Rattle.std.proofs.lemmas.Bool.{both_ways}
 use Rattle.filters.specs.declared.rows.FilterRow.{FilterRow}
 use Rattle.filters.specs.declared.rows.Header.{Header}
-use Rattle.filters.specs.Counting.{Among, Pairwise, how_many}
+use Rattle.filters.specs.declared.calls.Call.{Call}
+use Rattle.filters.specs.Standing.{standing}
+use Rattle.filter_laws.proofs.Ordering.{ordered_standing}
+use Rattle.filters.specs.Counting.{Among, how_many}
 use Rattle.filters.specs.Filters.{ranks_ahead}
 use Rattle.filters.specs.Scans.{first, wins, joins, scan}
 use Rattle.filter_laws.specs.Relations.{Scans}
-use Rattle.filter_laws.proofs.Ranks.{ahead_irreflexive, ahead_asymmetric}
+use Rattle.filter_laws.proofs.Ranks.{Ranked, ahead_irreflexive, ahead_asymmetric}
 use Rattle.filter_laws.proofs.Edits.{all_among}
-
-abbrev Ranked : List FilterRow → Type 0
-Ranked fs = Pairwise (λ f g. ranks_ahead f g ≡ true) fs
 
 module _ (p : FilterRow → Bool) where
   -- the first that passes
@@ -38,48 +38,28 @@ module _ (p : FilterRow → Bool) where
 
   none_passes : (fs : List FilterRow) → first p fs ≡ None → (g : FilterRow) → Among g fs → p g ≡ false
   none_passes [] h g z = absurd z
-  none_passes (x ∷ xs) h g m = by_test (p x) refl h (λ h'. none_passes xs h' g)
-    where
-      by_test : (b : Bool) → p x ≡ b → cond b (Some x) (first p xs) ≡ None → (first p xs ≡ None → Among g xs → p g ≡ false) → p g ≡ false
-      by_test true e h' rest = absurd (let z : ◌≡◌ {A = ℕ} 0 1 = cc in omega arith)
-      by_test false e h' rest = ⊎_elim (λ k. subst (λ (y : FilterRow). p y ≡ false) k e) (λ k. rest h' k) m
+  none_passes (x ∷ xs) h g m = grind (arith, none_passes xs)
 
   passes_none : (fs : List FilterRow) → ((g : FilterRow) → Among g fs → p g ≡ false) → first p fs ≡ None
   passes_none [] h = refl
   passes_none (x ∷ xs) h = ap (λ (b : Bool). cond b (Some x) (first p xs)) (h x (inl refl)) ∙ passes_none xs (λ g m. h g (inr m))
 
   -- those that pass
-  kept_cases : (x : FilterRow) (xs : List FilterRow) (P : List FilterRow → Type 0) → (p x ≡ true → P (x ∷ filter p xs)) → (p x ≡ false → P (filter p xs)) → P (filter p (x ∷ xs))
-  kept_cases x xs P in' out = by_test (p x) in' out
-    where
-      by_test : (b : Bool) → (b ≡ true → P (x ∷ filter p xs)) → (b ≡ false → P (filter p xs)) → P (cond b (x ∷ filter p xs) (filter p xs))
-      by_test true y z = y refl
-      by_test false y z = z refl
-
   kept_ranked : (fs : List FilterRow) → Ranked fs → Ranked (filter p fs)
   kept_ranked [] h = tt
-  kept_ranked (x ∷ xs) h = kept_cases x xs Ranked (λ e. (all_kept_by p (λ y. ranks_ahead x y ≡ true) xs h.0, kept_ranked xs h.1)) (λ e. kept_ranked xs h.1)
+  kept_ranked (x ∷ xs) h = grind (arith, all_kept_by p (λ y. ranks_ahead x y ≡ true) xs h.0, kept_ranked xs h.1)
 
   kept_member : (f : FilterRow) (fs : List FilterRow) → Among f (filter p fs) → Among f fs × (p f ≡ true)
   kept_member f [] z = absurd z
-  kept_member f (x ∷ xs) m =
-      kept_cases x xs (λ l. Among f l → Among f (x ∷ xs) × (p f ≡ true))
-      (λ e n. ⊎_elim (λ k. (inl k, subst (λ (y : FilterRow). p y ≡ true) k e)) (λ k. let r = kept_member f xs k in (inr r.0, r.1)) n)
-      (λ e n. let r = kept_member f xs n in (inr r.0, r.1)) m
+  kept_member f (x ∷ xs) m = grind (arith, kept_member f xs)
 
   kept_has : (f : FilterRow) (fs : List FilterRow) → Among f fs → p f ≡ true → Among f (filter p fs)
   kept_has f [] z pf = absurd z
-  kept_has f (x ∷ xs) m pf =
-      kept_cases x xs (Among f) (λ e. ⊎_elim (λ k. inl k) (λ k. inr (kept_has f xs k pf)) m)
-      (λ e. ⊎_elim (λ k. absurd (both_ways (p f) (subst (λ (y : FilterRow). p y ≡ false) k e) pf)) (λ k. kept_has f xs k pf) m)
+  kept_has f (x ∷ xs) m pf = grind (arith, kept_has f xs)
 
   kept_many : (fs : List FilterRow) → length (filter p fs) ≡ how_many p fs
   kept_many [] = refl
-  kept_many (x ∷ xs) = by_test (p x) (kept_many xs)
-    where
-      by_test : (b : Bool) → length (filter p xs) ≡ how_many p xs → length (cond b (x ∷ filter p xs) (filter p xs)) ≡ cond b 1 0 + how_many p xs
-      by_test true r = omega arith
-      by_test false r = omega arith
+  kept_many (x ∷ xs) = grind (arith, kept_many xs)
 
 -- the front of a list, and what is left of it
 take_ranked : (n : ℕ) (fs : List FilterRow) → Ranked fs → Ranked (take n fs)
@@ -90,8 +70,7 @@ take_ranked (suc n) (x ∷ xs) h = (All-take (λ y. ranks_ahead x y ≡ true) n 
 take_member : (f : FilterRow) (n : ℕ) (fs : List FilterRow) → Among f (take n fs) → Among f fs
 take_member f zero fs z = absurd z
 take_member f (suc n) [] z = absurd z
-take_member f (suc n) (x ∷ xs) (inl e) = inl e
-take_member f (suc n) (x ∷ xs) (inr m) = inr (take_member f n xs m)
+take_member f (suc n) (x ∷ xs) m = grind (arith, take_member f n xs)
 
 drop_member : (f : FilterRow) (n : ℕ) (fs : List FilterRow) → Among f (drop n fs) → Among f fs
 drop_member f zero fs m = m
@@ -101,8 +80,7 @@ drop_member f (suc n) (x ∷ xs) m = inr (drop_member f n xs m)
 either_part : (f : FilterRow) (n : ℕ) (fs : List FilterRow) → Among f fs → Among f (take n fs) ⊎ Among f (drop n fs)
 either_part f zero fs m = inr m
 either_part f (suc n) [] z = absurd z
-either_part f (suc n) (x ∷ xs) (inl e) = inl (inl e)
-either_part f (suc n) (x ∷ xs) (inr m) = ⊎_elim (λ k. inl (inr k)) (λ k. inr k) (either_part f n xs m)
+either_part f (suc n) (x ∷ xs) m = grind (arith, either_part f n xs)
 
 parts_ranked : (f g : FilterRow) (n : ℕ) (fs : List FilterRow) → Ranked fs → Among f (take n fs) → Among g (drop n fs) → ranks_ahead f g ≡ true
 parts_ranked f g zero fs h z k = absurd z
@@ -124,3 +102,7 @@ scans fs h r ranked =
           (λ i. ahead_asymmetric f g (parts_ranked f g r kept (kept_ranked (joins h) fs ranked) m i))
           (either_part g r kept (kept_has (joins h) g fs k pg));
     }
+
+-- the same of what stands after a list of calls
+pub scans_standing : (calls : List Call) (h : Header) (r : ℕ) → Scans (standing calls) h r (scan (standing calls) h r)
+scans_standing calls h r = scans (standing calls) h r (ordered_standing calls).ranked

@@ -44,6 +44,7 @@ pub fn replay(calls: &[Call]) -> FilterTable
 }
 
 // The best filter for a header after a list of calls, and the law of every scan of what then stands.
+#[tactic(auto, using(crate::proofs::Scanning::scans_standing))]
 pub fn best_after(calls: &[Call], header: &Header) -> Option<Best>
     ensures best { result ≡ option_map told (best (standing calls.now) header.now) }
     ensures scans { (h : Header) (n : ℕ) → Scans (standing calls.now) h n (scan (standing calls.now) h n) }
@@ -52,6 +53,7 @@ pub fn best_after(calls: &[Call], header: &Header) -> Option<Best>
 }
 
 // Why a further call is refused after a list of calls; one that is accepted reports no more labels than there are places, and at least one combination.
+#[tactic(auto, using(crate::proofs::Bounds::bounded))]
 pub fn refusal_after(calls: &[Call], call: &Call) -> Option<Fault>
     ensures refusal { result ≡ refusal (standing calls.now) call.now }
     ensures bounds { Bounded calls.now call.now }
@@ -60,6 +62,7 @@ pub fn refusal_after(calls: &[Call], call: &Call) -> Option<Fault>
 }
 
 // The same after either of two lists of calls: where the same filters stand, everything is the same.
+#[tactic(auto, using(crate::proofs::Equal::alike))]
 pub fn refusals_after(
     first: &[Call],
     second: &[Call],

@@ -90,6 +90,7 @@ const OUTSIDE: Header = Header {
 };
 
 // The calls of the sample in their order.
+#[tactic(auto, using(crate::proofs::Known::figures))]
 pub fn sample() -> [Call; 8]
     ensures calls { result ≡ sample_calls }
     ensures figures { Figures }

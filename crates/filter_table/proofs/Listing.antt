@@ -1,7 +1,6 @@
 -- Listing: the loop that writes the identifiers of the listed filters, one after another.
-use Rattle.std.proofs.Common.{◌≡◌, ℕ, ◌+◌, ◌<◌, ◌≤◌, Bool, true, cond, ◌&&◌, List, [], ◌∷◌, ◌++◌, map, length, get_or, take, drop, set, filter, sym, refl, ap, ◌∙◌, arith}
+use Rattle.std.proofs.Common.{◌≡◌, ℕ, ◌+◌, ◌<◌, ◌≤◌, Bool, true, ◌&&◌, List, [], ◌∷◌, ◌++◌, map, length, get_or, take, drop, set, filter, sym, refl, ap, ◌∙◌, arith}
 use Rattle.std.proofs.lemmas.List.{append_assoc, length-map, length_push, map_push, set_at, drop_more, take_more, take_all, length-take-le}
-use Rattle.std.proofs.lemmas.Bool.{and_parts}
 use Rattle.filters.specs.declared.rows.FilterRow.{FilterRow}
 use Rattle.filters.specs.Counting.{every}
 use Rattle.filters.specs.Scans.{written}
@@ -9,9 +8,7 @@ use Rattle.filters.specs.Scans.{written}
 -- filtering elements that all pass another test
 pub filter_is : {X : Type 0} (p q : X → Bool) (xs : List X) → every q xs ≡ true → filter (λ x. q x && p x) xs ≡ filter p xs
 filter_is p q [] h = refl
-filter_is {X} p q (x ∷ xs) h =
-    let e = and_parts (q x) (every q xs) h in
-    rw e.0 (ap (λ (r : List X). cond (p x) (x ∷ r) r) (filter_is p q xs e.1))
+filter_is p q (x ∷ xs) h = grind (arith, filter_is p q xs)
 
 abbrev identifier_of : FilterRow → ℕ
 identifier_of f = f.identifier

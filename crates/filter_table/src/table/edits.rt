@@ -36,6 +36,7 @@ impl FilterTable {
     }
 
     // Puts a filter in by its rank, and answers its position.
+    #[tactic(auto, using(crate::proofs::Held::answered, crate::proofs::Held::entering))]
     pub fn add(&mut self, row: FilterRow) -> Result<usize, Fault>
         ensures result { result ≡ answer (refusal (held self.old) (Add row)) (rank_place row (held self.old)) }
         ensures list { held self.new ≡ after (held self.old) (Add row) }
@@ -67,6 +68,7 @@ impl FilterTable {
     }
 
     // Takes out the filter of an identifier, and answers the position that it had.
+    #[tactic(auto, using(crate::proofs::Held::answered, crate::proofs::Held::leaving))]
     pub fn remove(&mut self, identifier: u16) -> Result<usize, Fault>
         ensures result { result ≡ answer (refusal (held self.old) (Remove identifier)) (place_of identifier (held self.old)) }
         ensures list { held self.new ≡ after (held self.old) (Remove identifier) }

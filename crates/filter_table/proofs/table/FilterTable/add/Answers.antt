@@ -1,6 +1,4 @@
 use Rattle.std.proofs.Common.{ap, ◌∙◌, arith}
-use Rattle.filters.specs.Counting.{every}
-use Rattle.filters.specs.Filters.{lawful}
 use Rattle.filters.specs.Standing.{rank_place}
 use Rattle.filter_table.specs.Tables.{held}
 use Rattle.filter_table.proofs.Held.{answered, entering}
@@ -11,15 +9,3 @@ insert-requires c =
     let t = c.args.self.now in
     let e = entering (held t) c.args.row _ t.formed (answered _ _ _ c.in_ok-check_add.ensures).0 (c.rank_place-position.ensures ∙ ap (rank_place c.args.row) c.as_slice.ensures.value) in
     (omega arith, (e.place, e.room))
-
-pub invariant_of-self : goal.invariant_of-self
-invariant_of-self c =
-    let t = c.args.self.now in
-    let e = entering (held t) c.args.row _ t.formed (answered _ _ _ c.in_ok-check_add.ensures).0 (c.rank_place-position.ensures ∙ ap (rank_place c.args.row) c.as_slice.ensures.value) in
-    record { formed = ap (every lawful) c.insert.ensures.items ∙ e.formed }
-
-pub returns-clause-list : goal.returns-clause-list
-returns-clause-list c =
-    let t = c.args.self.now in
-    let e = entering (held t) c.args.row _ t.formed (answered _ _ _ c.in_ok-check_add.ensures).0 (c.rank_place-position.ensures ∙ ap (rank_place c.args.row) c.as_slice.ensures.value) in
-    c.insert.ensures.items ∙ e.stand
