@@ -1,5 +1,4 @@
-use Rattle.std.proofs.Common.{◌≡◌, ℕ, ◌≤◌, List, map, length, take, drop, sym, ◌∙◌, arith}
-
+use Rattle.std.proofs.Common.{List, map, length, take, drop, sym, ◌∙◌, arith}
 use Rattle.std.proofs.lemmas.Bool.{eqb-true}
 use Rattle.columns.specs.Fields.{Placed, Stand}
 use Rattle.network.specs.Nodes.{Filed, Nodes}
