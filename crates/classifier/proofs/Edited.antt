@@ -46,7 +46,7 @@ told_field eq agrees value j k old new x before after is t = record {
 
 -- x with the others, as the columns and nodes have them that serve all of them
 module _ {A B C D E F S : Type 0} {a : A → Meaning Prefix → Type 0} {b : B → Meaning Prefix → Type 0} {c : C → Meaning PortRange → Type 0} {d : D → Meaning PortRange → Type 0} {e : E → Meaning Protocol → Type 0} {f : F → Meaning FlagMask → Type 0} {s : S → Meaning Pair → Type 0}
-    (order : NetworkOrder) (columns : Columns A B C D E F) (nodes : List (Board Pair S Pair)) (spare : Board Pair S Pair) (before after : List Entry) (x : Entry) (asked : ℕ → ℕ) (ns : List ℕ)
+    (order : NetworkOrder) (columns : Columns A B C D E F) (nodes : List (Board Pair S)) (spare : Board Pair S) (before after : List Entry) (x : Entry) (asked : ℕ → ℕ) (ns : List ℕ)
     (stand : Stand a b c d e f columns (map in_columns (before ++ x ∷ after)) asked) (net : Nodes s nodes (map (in_network order.fields) (before ++ x ∷ after)) ns 5) (first : AllByRecursion First (map (in_network order.fields) (before ++ x ∷ after))) where
   abbrev Fit : Entry → Type 0
   Fit y = Good {a = a} {b = b} {c = c} {d = d} {e = e} {f = f} {s = s} order.fields columns nodes spare (before ++ x ∷ after) asked ns 5 stand net y

@@ -25,13 +25,13 @@ pub record ToldIf {P Q : Type 0} (agrees : P → List Q → Type 0) (told : ℕ)
 -- the filter f comes or goes where the others are fs: an engine is told only if none of them has f's value in its field,
 -- and a store only if none has f's values in the fields combined up to its node. a to f are the asked lists of the engines, s of a store
 pub record Told {A B C D E F S : Type 0} (a : A → List ℕ → Type 0) (b : B → List ℕ → Type 0) (c : C → List ℕ → Type 0) (d : D → List ℕ → Type 0) (e : E → List ℕ → Type 0) (f : F → List ℕ → Type 0) (s : S → List Pair → Type 0) (old new : Classifier A B C D E F S) (x : FilterRow) (fs : List FilterRow) : Type 0 where
-  pub source : ToldIf a (alone x fs (1 ∷ [])) old.columns.source new.columns.source
-  pub destination : ToldIf b (alone x fs (2 ∷ [])) old.columns.destination new.columns.destination
-  pub source_port : ToldIf c (alone x fs (3 ∷ [])) old.columns.source_port new.columns.source_port
-  pub destination_port : ToldIf d (alone x fs (4 ∷ [])) old.columns.destination_port new.columns.destination_port
-  pub protocol : ToldIf e (alone x fs (5 ∷ [])) old.columns.protocol new.columns.protocol
-  pub flags : ToldIf f (alone x fs (6 ∷ [])) old.columns.flags new.columns.flags
-  pub stores : (j : ℕ) (z : Board Pair S Pair) → j < 5 → ToldIf s (alone x fs (node_fields old.network.order.fields (j + 1))) (slice_index_or old.network.nodes j z).part (slice_index_or new.network.nodes j z).part
+  pub source : ToldIf a (alone x fs (1 ∷ [])) old.columns.source.part new.columns.source.part
+  pub destination : ToldIf b (alone x fs (2 ∷ [])) old.columns.destination.part new.columns.destination.part
+  pub source_port : ToldIf c (alone x fs (3 ∷ [])) old.columns.source_port.part new.columns.source_port.part
+  pub destination_port : ToldIf d (alone x fs (4 ∷ [])) old.columns.destination_port.part new.columns.destination_port.part
+  pub protocol : ToldIf e (alone x fs (5 ∷ [])) old.columns.protocol.part new.columns.protocol.part
+  pub flags : ToldIf f (alone x fs (6 ∷ [])) old.columns.flags.part new.columns.flags.part
+  pub stores : (j : ℕ) (z : Board Pair S) → j < 5 → ToldIf s (alone x fs (node_fields old.network.order.fields (j + 1))) (slice_index_or old.network.nodes j z).part (slice_index_or new.network.nodes j z).part
 
 -- what entering a filter at a position among the entries does: it gets labels, the parts serve it too, and so many labels of
 -- either sort came into use as no entry had the label's values

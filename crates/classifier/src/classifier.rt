@@ -1,19 +1,19 @@
 // The classifier: the standing filters in rank order with their labels, six engines and five nodes.
+use arrayvec::ArrayVec;
 use columns::columns::Columns;
 use entries::filter_labels::FilterLabels;
-use filter_table::shifts::CAPACITY;
-use filter_table::table::FilterTable;
+use filter_table::table::{CAPACITY, FilterTable};
 use network::network::Network;
-use stores::store::Store;
 
-pub mod edits;
+mod edits;
+mod entering;
 pub mod making;
 
 #[derive(Drop)]
-pub struct Classifier<A, B, C, D, E, F, S: Store> {
+pub struct Classifier<A, B, C, D, E, F, S> {
     table: FilterTable,
     // the labels of the filters of the table, in the same order
-    labels: [FilterLabels; CAPACITY],
+    labels: ArrayVec<FilterLabels, CAPACITY>,
     columns: Columns<A, B, C, D, E, F>,
     network: Network<S>,
 }

@@ -1,5 +1,5 @@
 -- One field of the standing filters, for a value of any kind.
-use Rattle.std.proofs.Common.{◌≡◌, ℕ, zero, suc, ◌+◌, ◌<◌, ◌≤◌, Bool, true, false, eqb, List, [], ◌∷◌, ◌++◌, map, length, get_or, None, Decides, Option, sym, refl, ap, ◌∙◌, subst, arith, length-append}
+use Rattle.std.proofs.Common.{◌≡◌, ℕ, zero, suc, ◌+◌, ◌<◌, ◌≤◌, Bool, true, false, eqb, List, [], ◌∷◌, ◌++◌, map, length, get_or, replicate, None, Decides, Option, sym, refl, ap, ◌∙◌, subst, arith, length-append}
 use mir.Val.{bool_byte}
 use Rattle.std.specs.List.{AllByRecursion}
 use Rattle.std.proofs.lemmas.List.{length-map, map-append}
@@ -7,7 +7,7 @@ use Rattle.filters.specs.declared.filter.Filter.{Filter}
 use Rattle.labels.specs.declared.table.Used.{Used}
 use Rattle.labels.specs.Labels.{Standing, standing, Labelled, here, occurrences, keys, key_of}
 use Rattle.labels.proofs.Tables.{all_turn}
-use Rattle.parts.specs.Meaning.{Meaning}
+use Rattle.parts.specs.Meaning.{Meaning, meaning, nothing}
 use Rattle.filters.specs.Counting.{different}
 use Rattle.parts.specs.Marks.{hit, labels_of}
 use Rattle.labelling.specs.Boards.{Stands, Labels, member}
@@ -53,6 +53,13 @@ module _ {V : Type 0} (value : Filter → V) (j : ℕ) (before after : List Plac
   pub told_if : {P : Type 0} (eq : V → V → Bool) (agrees : P → List ℕ → Type 0) (old new : P) (f : Filter) (b : Bool) → b ≡ eqb (occurrences eq (value f) (map (in_field value j) before ++ map (in_field value j) after)) 0
       → (b ≡ false → new ≡ old) → ((l : List ℕ) → agrees old l → agrees new l) → ToldIf eq agrees value j old new f (before ++ after)
   told_if eq agrees old new f b e u a = record { untold = λ h. u (e ∙ said_of_all eq f ∙ h); asked = a }
+
+-- a field where no filter stands
+pub none_stand : {V P : Type 0} (eq : V → V → Bool) (shows : P → Meaning V → Type 0) (slots : List (Option (Used V))) (part : P) → Labelled eq slots [] → slots ≡ replicate 96 None → shows part nothing → Stands eq shows slots part [] 0
+none_stand {V} eq shows slots part labelled none held = record {
+  labelled = labelled;
+  shown = subst (λ (ss : List (Option (Used V))). shows part (meaning (keys ss) 0)) (sym none) held;
+}
 
 -- a sum of six, each known
 pub six : (a b c d e f : Bool) (u v w x y z : Bool) → a ≡ u → b ≡ v → c ≡ w → d ≡ x → e ≡ y → f ≡ z

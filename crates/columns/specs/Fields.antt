@@ -89,21 +89,21 @@ values_in_use ps =
 
 -- all six columns stand for the filters
 pub record Stand {A B C D E F : Type 0} (a : A → Meaning Prefix → Type 0) (b : B → Meaning Prefix → Type 0) (c : C → Meaning PortRange → Type 0) (d : D → Meaning PortRange → Type 0) (e : E → Meaning Protocol → Type 0) (f : F → Meaning FlagMask → Type 0) (columns : Columns A B C D E F) (ps : List Placed) (asked : ℕ → ℕ) : Type 0 where
-  pub source : Column prefix_eq a (λ g. g.source) 0 columns.source_labels.slots columns.source ps asked
-  pub destination : Column prefix_eq b (λ g. g.destination) 1 columns.destination_labels.slots columns.destination ps asked
-  pub source_port : Column range_eq c (λ g. g.source_port) 2 columns.source_port_labels.slots columns.source_port ps asked
-  pub destination_port : Column range_eq d (λ g. g.destination_port) 3 columns.destination_port_labels.slots columns.destination_port ps asked
-  pub protocol : Column protocol_eq e (λ g. g.protocol) 4 columns.protocol_labels.slots columns.protocol ps asked
-  pub flags : Column flags_eq f (λ g. g.flags) 5 columns.flags_labels.slots columns.flags ps asked
+  pub source : Column prefix_eq a (λ g. g.source) 0 columns.source.table.slots columns.source.part ps asked
+  pub destination : Column prefix_eq b (λ g. g.destination) 1 columns.destination.table.slots columns.destination.part ps asked
+  pub source_port : Column range_eq c (λ g. g.source_port) 2 columns.source_port.table.slots columns.source_port.part ps asked
+  pub destination_port : Column range_eq d (λ g. g.destination_port) 3 columns.destination_port.table.slots columns.destination_port.part ps asked
+  pub protocol : Column protocol_eq e (λ g. g.protocol) 4 columns.protocol.table.slots columns.protocol.part ps asked
+  pub flags : Column flags_eq f (λ g. g.flags) 5 columns.flags.table.slots columns.flags.part ps asked
 
 -- each engine was told only if it had to be
 pub record ToldColumns {A B C D E F : Type 0} (a : A → List ℕ → Type 0) (b : B → List ℕ → Type 0) (c : C → List ℕ → Type 0) (d : D → List ℕ → Type 0) (e : E → List ℕ → Type 0) (f : F → List ℕ → Type 0) (old new : Columns A B C D E F) (x : Filter) (ps : List Placed) : Type 0 where
-  pub source : ToldIf prefix_eq a (λ g. g.source) 0 old.source new.source x ps
-  pub destination : ToldIf prefix_eq b (λ g. g.destination) 1 old.destination new.destination x ps
-  pub source_port : ToldIf range_eq c (λ g. g.source_port) 2 old.source_port new.source_port x ps
-  pub destination_port : ToldIf range_eq d (λ g. g.destination_port) 3 old.destination_port new.destination_port x ps
-  pub protocol : ToldIf protocol_eq e (λ g. g.protocol) 4 old.protocol new.protocol x ps
-  pub flags : ToldIf flags_eq f (λ g. g.flags) 5 old.flags new.flags x ps
+  pub source : ToldIf prefix_eq a (λ g. g.source) 0 old.source.part new.source.part x ps
+  pub destination : ToldIf prefix_eq b (λ g. g.destination) 1 old.destination.part new.destination.part x ps
+  pub source_port : ToldIf range_eq c (λ g. g.source_port) 2 old.source_port.part new.source_port.part x ps
+  pub destination_port : ToldIf range_eq d (λ g. g.destination_port) 3 old.destination_port.part new.destination_port.part x ps
+  pub protocol : ToldIf protocol_eq e (λ g. g.protocol) 4 old.protocol.part new.protocol.part x ps
+  pub flags : ToldIf flags_eq f (λ g. g.flags) 5 old.flags.part new.flags.part x ps
 
 -- one engine was asked one number: the labels found, and every list that it may have been asked grows by the number
 pub record Answered {V P : Type 0} (eq : V → V → Bool) (takes : V → Bool) (agrees : P → List ℕ → Type 0) (value : Filter → V) (j number : ℕ) (old new : P) (ps : List Placed) (found : List ℕ) : Type 0 where
@@ -113,12 +113,12 @@ pub record Answered {V P : Type 0} (eq : V → V → Bool) (takes : V → Bool) 
 
 -- each engine was asked the header's number in its field, once
 pub record AnsweredColumns {A B C D E F : Type 0} (a : A → List ℕ → Type 0) (b : B → List ℕ → Type 0) (c : C → List ℕ → Type 0) (d : D → List ℕ → Type 0) (e : E → List ℕ → Type 0) (f : F → List ℕ → Type 0) (old new : Columns A B C D E F) (h : Header) (ps : List Placed) (found : ℕ → List ℕ) : Type 0 where
-  pub source : Answered prefix_eq (λ v. prefix_takes v.row h.source) a (λ g. g.source) 0 h.source old.source new.source ps (found 0)
-  pub destination : Answered prefix_eq (λ v. prefix_takes v.row h.destination) b (λ g. g.destination) 1 h.destination old.destination new.destination ps (found 1)
-  pub source_port : Answered range_eq (λ v. range_takes v.row h.source_port) c (λ g. g.source_port) 2 h.source_port old.source_port new.source_port ps (found 2)
-  pub destination_port : Answered range_eq (λ v. range_takes v.row h.destination_port) d (λ g. g.destination_port) 3 h.destination_port old.destination_port new.destination_port ps (found 3)
-  pub protocol : Answered protocol_eq (λ v. protocol_takes v.row h.protocol) e (λ g. g.protocol) 4 h.protocol old.protocol new.protocol ps (found 4)
-  pub flags : Answered flags_eq (λ v. flag_takes v.row h.flags) f (λ g. g.flags) 5 h.flags old.flags new.flags ps (found 5)
+  pub source : Answered prefix_eq (λ v. prefix_takes v.row h.source) a (λ g. g.source) 0 h.source old.source.part new.source.part ps (found 0)
+  pub destination : Answered prefix_eq (λ v. prefix_takes v.row h.destination) b (λ g. g.destination) 1 h.destination old.destination.part new.destination.part ps (found 1)
+  pub source_port : Answered range_eq (λ v. range_takes v.row h.source_port) c (λ g. g.source_port) 2 h.source_port old.source_port.part new.source_port.part ps (found 2)
+  pub destination_port : Answered range_eq (λ v. range_takes v.row h.destination_port) d (λ g. g.destination_port) 3 h.destination_port old.destination_port.part new.destination_port.part ps (found 3)
+  pub protocol : Answered protocol_eq (λ v. protocol_takes v.row h.protocol) e (λ g. g.protocol) 4 h.protocol old.protocol.part new.protocol.part ps (found 4)
+  pub flags : Answered flags_eq (λ v. flag_takes v.row h.flags) f (λ g. g.flags) 5 h.flags old.flags.part new.flags.part ps (found 5)
 
 -- each was asked once more
 abbrev pub once_more : (ℕ → ℕ) → ℕ → ℕ

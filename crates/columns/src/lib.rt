@@ -3,4 +3,4 @@
 pub mod asking;
 pub mod calls;
 pub mod columns;
-pub mod search;
+pub mod serving;

@@ -53,32 +53,32 @@ module _ {V : Type 0} (eq : V → V → Bool) (law : (a b : V) → Decides (eq a
   all_held es h = all_unmap in_columns (λ p. here eq (value p.filter) (get_or slots (get_or p.labels j 0) None) ≡ true) es (all_unmap (in_field value j) (λ s. here eq s.key (get_or slots s.label None) ≡ true) (map in_columns es) h.holds)
 
 module _ {A B C D E F S : Type 0} {a : A → Meaning Prefix → Type 0} {b : B → Meaning Prefix → Type 0} {c : C → Meaning PortRange → Type 0} {d : D → Meaning PortRange → Type 0} {e : E → Meaning Protocol → Type 0} {f : F → Meaning FlagMask → Type 0} {s : S → Meaning Pair → Type 0}
-    (order : List ℕ) (columns : Columns A B C D E F) (nodes : List (Board Pair S Pair)) (spare : Board Pair S Pair) (es : List Entry) (asked : ℕ → ℕ) (ns : List ℕ) (n : ℕ)
+    (order : List ℕ) (columns : Columns A B C D E F) (nodes : List (Board Pair S)) (spare : Board Pair S) (es : List Entry) (asked : ℕ → ℕ) (ns : List ℕ) (n : ℕ)
     (stand : Stand a b c d e f columns (map in_columns es) asked) (net : Nodes s nodes (map (in_network order) es) ns n) where
   -- what the tables say of an entry
   pub record Good (x : Entry) : Type 0 where
-    pub source : Held prefix_eq prefix_decides (λ (g : Filter). g.source) 0 columns.source_labels.slots x
-    pub destination : Held prefix_eq prefix_decides (λ (g : Filter). g.destination) 1 columns.destination_labels.slots x
-    pub source_port : Held range_eq range_decides (λ (g : Filter). g.source_port) 2 columns.source_port_labels.slots x
-    pub destination_port : Held range_eq range_decides (λ (g : Filter). g.destination_port) 3 columns.destination_port_labels.slots x
-    pub protocol : Held protocol_eq protocol_decides (λ (g : Filter). g.protocol) 4 columns.protocol_labels.slots x
-    pub flags : Held flags_eq flags_decides (λ (g : Filter). g.flags) 5 columns.flags_labels.slots x
+    pub source : Held prefix_eq prefix_decides (λ (g : Filter). g.source) 0 columns.source.table.slots x
+    pub destination : Held prefix_eq prefix_decides (λ (g : Filter). g.destination) 1 columns.destination.table.slots x
+    pub source_port : Held range_eq range_decides (λ (g : Filter). g.source_port) 2 columns.source_port.table.slots x
+    pub destination_port : Held range_eq range_decides (λ (g : Filter). g.destination_port) 3 columns.destination_port.table.slots x
+    pub protocol : Held protocol_eq protocol_decides (λ (g : Filter). g.protocol) 4 columns.protocol.table.slots x
+    pub flags : Held flags_eq flags_decides (λ (g : Filter). g.flags) 5 columns.flags.table.slots x
     pub filed : GoodFiled s spare nodes (map (in_network order) es) ns n net (in_network order x)
 
   pub field_same : (x y : Entry) → Good x → Good y → (k : ℕ) → is_field field_count k ≡ true → eqb (get_or x.labels.fields (k - 1) 0) (get_or y.labels.fields (k - 1) 0) ≡ same_value (field (row_of x) k) (field (row_of y) k)
   field_same x y hx hy zero l = absurd (both_ways false refl l)
   field_same x y hx hy (suc zero) l =
-      label_value prefix_eq prefix_decides (λ (g : Filter). g.source) 0 columns.source_labels.slots stand.source.labelled.single x y hx.source hy.source
+      label_value prefix_eq prefix_decides (λ (g : Filter). g.source) 0 columns.source.table.slots stand.source.labelled.single x y hx.source hy.source
   field_same x y hx hy (suc (suc zero)) l =
-      label_value prefix_eq prefix_decides (λ (g : Filter). g.destination) 1 columns.destination_labels.slots stand.destination.labelled.single x y hx.destination hy.destination
+      label_value prefix_eq prefix_decides (λ (g : Filter). g.destination) 1 columns.destination.table.slots stand.destination.labelled.single x y hx.destination hy.destination
   field_same x y hx hy (suc (suc (suc zero))) l =
-      label_value range_eq range_decides (λ (g : Filter). g.source_port) 2 columns.source_port_labels.slots stand.source_port.labelled.single x y hx.source_port hy.source_port
+      label_value range_eq range_decides (λ (g : Filter). g.source_port) 2 columns.source_port.table.slots stand.source_port.labelled.single x y hx.source_port hy.source_port
   field_same x y hx hy (suc (suc (suc (suc zero)))) l =
-      label_value range_eq range_decides (λ (g : Filter). g.destination_port) 3 columns.destination_port_labels.slots stand.destination_port.labelled.single x y hx.destination_port hy.destination_port
+      label_value range_eq range_decides (λ (g : Filter). g.destination_port) 3 columns.destination_port.table.slots stand.destination_port.labelled.single x y hx.destination_port hy.destination_port
   field_same x y hx hy (suc (suc (suc (suc (suc zero))))) l =
-      label_value protocol_eq protocol_decides (λ (g : Filter). g.protocol) 4 columns.protocol_labels.slots stand.protocol.labelled.single x y hx.protocol hy.protocol
+      label_value protocol_eq protocol_decides (λ (g : Filter). g.protocol) 4 columns.protocol.table.slots stand.protocol.labelled.single x y hx.protocol hy.protocol
   field_same x y hx hy (suc (suc (suc (suc (suc (suc zero)))))) l =
-      label_value flags_eq flags_decides (λ (g : Filter). g.flags) 5 columns.flags_labels.slots stand.flags.labelled.single x y hx.flags hy.flags
+      label_value flags_eq flags_decides (λ (g : Filter). g.flags) 5 columns.flags.table.slots stand.flags.labelled.single x y hx.flags hy.flags
   field_same x y hx hy (suc (suc (suc (suc (suc (suc (suc k))))))) l =
       absurd (omega (arith, leb-true (suc (suc (suc (suc (suc (suc (suc k))))))) 6 (and_parts (leb 1 (suc (suc (suc (suc (suc (suc (suc k)))))))) (leb (suc (suc (suc (suc (suc (suc (suc k))))))) 6) l).1))
 
@@ -88,21 +88,21 @@ module _ {A B C D E F S : Type 0} {a : A → Meaning Prefix → Type 0} {b : B �
   pub all_good_entries : AllByRecursion First (map (in_network order) es) → AllByRecursion Good es
   all_good_entries first =
       zipped es
-      (all_held prefix_eq prefix_decides (λ (g : Filter). g.source) 0 columns.source_labels.slots es stand.source.labelled)
-      (all_held prefix_eq prefix_decides (λ (g : Filter). g.destination) 1 columns.destination_labels.slots es stand.destination.labelled)
-      (all_held range_eq range_decides (λ (g : Filter). g.source_port) 2 columns.source_port_labels.slots es stand.source_port.labelled)
-      (all_held range_eq range_decides (λ (g : Filter). g.destination_port) 3 columns.destination_port_labels.slots es stand.destination_port.labelled)
-      (all_held protocol_eq protocol_decides (λ (g : Filter). g.protocol) 4 columns.protocol_labels.slots es stand.protocol.labelled)
-      (all_held flags_eq flags_decides (λ (g : Filter). g.flags) 5 columns.flags_labels.slots es stand.flags.labelled)
+      (all_held prefix_eq prefix_decides (λ (g : Filter). g.source) 0 columns.source.table.slots es stand.source.labelled)
+      (all_held prefix_eq prefix_decides (λ (g : Filter). g.destination) 1 columns.destination.table.slots es stand.destination.labelled)
+      (all_held range_eq range_decides (λ (g : Filter). g.source_port) 2 columns.source_port.table.slots es stand.source_port.labelled)
+      (all_held range_eq range_decides (λ (g : Filter). g.destination_port) 3 columns.destination_port.table.slots es stand.destination_port.labelled)
+      (all_held protocol_eq protocol_decides (λ (g : Filter). g.protocol) 4 columns.protocol.table.slots es stand.protocol.labelled)
+      (all_held flags_eq flags_decides (λ (g : Filter). g.flags) 5 columns.flags.table.slots es stand.flags.labelled)
       (all_unmap (in_network order) (GoodFiled s spare nodes (map (in_network order) es) ns n net) es (all_good s spare nodes (map (in_network order) es) ns n net first))
     where
       zipped : (xs : List Entry)
-          → AllByRecursion (Held prefix_eq prefix_decides (λ (g : Filter). g.source) 0 columns.source_labels.slots) xs
-          → AllByRecursion (Held prefix_eq prefix_decides (λ (g : Filter). g.destination) 1 columns.destination_labels.slots) xs
-          → AllByRecursion (Held range_eq range_decides (λ (g : Filter). g.source_port) 2 columns.source_port_labels.slots) xs
-          → AllByRecursion (Held range_eq range_decides (λ (g : Filter). g.destination_port) 3 columns.destination_port_labels.slots) xs
-          → AllByRecursion (Held protocol_eq protocol_decides (λ (g : Filter). g.protocol) 4 columns.protocol_labels.slots) xs
-          → AllByRecursion (Held flags_eq flags_decides (λ (g : Filter). g.flags) 5 columns.flags_labels.slots) xs
+          → AllByRecursion (Held prefix_eq prefix_decides (λ (g : Filter). g.source) 0 columns.source.table.slots) xs
+          → AllByRecursion (Held prefix_eq prefix_decides (λ (g : Filter). g.destination) 1 columns.destination.table.slots) xs
+          → AllByRecursion (Held range_eq range_decides (λ (g : Filter). g.source_port) 2 columns.source_port.table.slots) xs
+          → AllByRecursion (Held range_eq range_decides (λ (g : Filter). g.destination_port) 3 columns.destination_port.table.slots) xs
+          → AllByRecursion (Held protocol_eq protocol_decides (λ (g : Filter). g.protocol) 4 columns.protocol.table.slots) xs
+          → AllByRecursion (Held flags_eq flags_decides (λ (g : Filter). g.flags) 5 columns.flags.table.slots) xs
           → AllByRecursion (λ x. GoodFiled s spare nodes (map (in_network order) es) ns n net (in_network order x)) xs
           → AllByRecursion Good xs
       zipped [] p q r t u v w = tt

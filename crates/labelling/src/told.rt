@@ -2,16 +2,25 @@
 ghost use Rattle.std.specs.Prelude.{◌≡◌, ℕ, ◌<◌, Bool, true, false, List, [], ◌∷◌, ◌++◌, length, is_err, IfOk, Some, None, ◌==◌};
 ghost use Rattle.labels.specs.Labels.{occurrences, standing, Standing};
 ghost use Rattle.parts.specs.Asked.{Succeeds};
-ghost use Rattle.parts.specs.Meaning.{label_fault};
+ghost use Rattle.parts.specs.Meaning.{nothing, label_fault};
 ghost use Rattle.labelling.specs.Boards.{Stands};
 
-use crate::board::Board;
 use fields::faults::Fault;
 use fields::keys::Key;
 use labels::table::{Acquired, LabelTable};
 use parts::told::Told;
 
+// The part, emptied.
+pub fn emptied<V: Key, P: Told<V>>(mut part: P) -> P
+    ensures held { P.Told.shows result nothing }
+    ensures asked { P.Told.agrees result [] }
+{
+    part.empty();
+    part
+}
+
 // The key's label, with its count raised, or a free one, of which the part is told.
+// Apart from a board's method: that one asks that the board fits in memory, which is not known of a board of any engine.
 pub fn enter<V: Key, P: Told<V>>(
     table: &mut LabelTable<V>,
     part: &mut P,
@@ -22,13 +31,10 @@ pub fn enter<V: Key, P: Told<V>>(
     ensures kept { is_err result ≡ true → part.new ≡ part.old }
     ensures asked { (l : List P.Asked) → P.Told.agrees part.old l → P.Told.agrees part.new l }
 {
-    let Some(acquired) = table.acquire(key) else {
-        return Err(Fault::Crowded);
-    };
-    if !acquired.new {
-        return Ok(acquired);
+    let acquired = table.acquire(key).ok_or(Fault::Crowded)?;
+    if acquired.new {
+        part.set(acquired.label, key)?;
     }
-    part.set(acquired.label, key)?;
     Ok(acquired)
 }
 
@@ -43,45 +49,9 @@ pub fn leave<V: Key, P: Told<V>>(
     ensures kept { is_err result ≡ true → part.new ≡ part.old }
     ensures asked { (l : List P.Asked) → P.Told.agrees part.old l → P.Told.agrees part.new l }
 {
-    let Some(released) = table.release(label) else {
-        return Err(Fault::Vacant(label));
-    };
-    if !released.freed {
-        return Ok(false);
+    let released = table.release(label).ok_or(Fault::Vacant(label))?;
+    if released.freed {
+        part.clear(label)?;
     }
-    part.clear(label)?;
-    Ok(true)
-}
-
-impl<V: Key, P: Told<V>> Board<V, P> {
-    // A board with every label free, over the part emptied.
-    pub fn make(part: P) -> Board<V, P>
-        ensures stands { Stands V.Key.eq P.Told.shows result.table.slots result.part [] 0 }
-        ensures asked { P.Told.agrees result.part [] }
-    {
-        let mut part = part;
-        part.empty();
-        Board {
-            table: LabelTable::empty(),
-            part,
-        }
-    }
-
-    pub fn enter(&mut self, key: V) -> Result<Acquired, Fault>
-        ensures entered { (before after : List (Standing V)) (n : ℕ) → Stands V.Key.eq P.Told.shows self.old.table.slots self.old.part (before ++ after) n → length (before ++ after) < 96 → label_fault (V.Key.labels key) ≡ None → Succeeds result (λ a. (a.label < 96) × (a.new ≡ (occurrences V.Key.eq key (before ++ after) == 0)) × Stands V.Key.eq P.Told.shows self.new.table.slots self.new.part (before ++ standing key a.label ∷ after) n) }
-        ensures untold { IfOk result (λ a. a.new ≡ false → self.new.part ≡ self.old.part) }
-        ensures kept { is_err result ≡ true → self.new.part ≡ self.old.part }
-        ensures asked { (l : List P.Asked) → P.Told.agrees self.old.part l → P.Told.agrees self.new.part l }
-    {
-        enter(&mut self.table, &mut self.part, key)
-    }
-
-    pub fn leave(&mut self, label: u8) -> Result<bool, Fault>
-        ensures left { (before after : List (Standing V)) (key : V) (n : ℕ) → Stands V.Key.eq P.Told.shows self.old.table.slots self.old.part (before ++ standing key label ∷ after) n → Succeeds result (λ freed. (freed ≡ (occurrences V.Key.eq key (before ++ after) == 0)) × Stands V.Key.eq P.Told.shows self.new.table.slots self.new.part (before ++ after) n) }
-        ensures untold { IfOk result (λ freed. freed ≡ false → self.new.part ≡ self.old.part) }
-        ensures kept { is_err result ≡ true → self.new.part ≡ self.old.part }
-        ensures asked { (l : List P.Asked) → P.Told.agrees self.old.part l → P.Told.agrees self.new.part l }
-    {
-        leave(&mut self.table, &mut self.part, label)
-    }
+    Ok(released.freed)
 }

@@ -1,11 +1,13 @@
 -- What each step of a label table does to the relation between the table and the standing filters.
-use Rattle.std.proofs.Common.{◌≡◌, ℕ, zero, suc, ◌+◌, ◌-◌, ◌<◌, ◌≤◌, Bool, true, false, cond, ◌≢◌, List, [], ◌∷◌, ◌++◌, length, get_or, set, replicate, Some, None, Decides, sum_by, count_by, Option, sym, refl, ap, ◌∙◌, subst, inl, inr, ⊎_elim, arith, length-append, length-set}
+use Rattle.std.proofs.Common.{◌≡◌, ℕ, zero, suc, ◌+◌, ◌-◌, ◌<◌, ◌≤◌, Bool, not, eqb, leb, true, false, cond, ◌≢◌, List, [], ◌∷◌, ◌++◌, length, get_or, set, replicate, Some, None, MatchOption, Decides, sum_by, count_by, Option, sym, refl, ap, ◌∙◌, subst, inl, inr, ⊎_elim, arith, length-append, length-set}
 use Rattle.std.specs.List.{AllByRecursion}
 use Rattle.std.proofs.lemmas.List.{get_or-set_same, get_or-set_other, get_or_past, map-set}
 use lib.Seq.{map-set_same}
-use Rattle.std.proofs.lemmas.List.Sums.{sum_by-cons, sum_by-append, sum_by-set, get_or-le-sum_by}
+use Rattle.std.specs.List.{position, position_or_len}
+use Rattle.std.proofs.lemmas.List.Sums.{sum_by-cons, sum_by-append, sum_by-set, get_or-le-sum_by, fails_before_first}
+use Rattle.std.proofs.lemmas.List.Quantifiers.{position-Some}
 use Rattle.std.proofs.ByRecursion.{sum_by_le, All-from_get_or, All-get_or}
-use Rattle.std.proofs.lemmas.Bool.{cases_eq, cases_lt, cases_Bool, both_ways}
+use Rattle.std.proofs.lemmas.Bool.{cases_eq, cases_lt, cases_Bool, both_ways, lt-ltb, le-leb, lt-leb, eq-eqb, ne_eqb}
 use Rattle.labels.specs.declared.table.Used.{Used}
 use Rattle.parts.specs.Meaning.{at}
 use Rattle.labels.specs.Labels.{Standing, standing, here, used, uses, share, occurrences, Labelled, key_of, keys, Came, OneLabel}
@@ -39,6 +41,27 @@ all_delete P (a ∷ front) back x h = let r = all_delete P front back x h.1 in (
 pub all_turn : {X : Type 0} (P Q : X → Type 0) → ((x : X) → P x → Q x) → (xs : List X) → AllByRecursion P xs → AllByRecursion Q xs
 all_turn P Q f [] h = tt
 all_turn P Q f (x ∷ xs) h = (f x h.0, all_turn P Q f xs h.1)
+
+-- where no item passes, none does
+pub none_passes : {X : Type 0} (p : X → Bool) (xs : List X) (d : X) → position p xs ≡ None → (k : ℕ) → k < length xs → p (get_or xs k d) ≡ false
+none_passes p xs d e k l =
+    elim (cases_lt k (position_or_len p xs)) [
+      | inl before ↦ fails_before_first p xs k d before
+      | inr after ↦ absurd (some_none (sym (ap (λ (b : Bool). cond b (Some (position_or_len p xs)) None) (lt-ltb (position_or_len p xs) (length xs) (omega arith))) ∙ e))
+    ]
+  where
+    some_none : {n : ℕ} → Some n ≡ None → ⊥
+    some_none {n} h = let z : ◌≡◌ {A = ℕ} 0 1 = cc in omega arith
+
+-- the first slot that is not used is free
+pub free_slot : {K : Type 0} (slots : List (Option (Used K))) (i : ℕ) → position (λ s. not (used s)) slots ≡ Some i → (i < length slots) × (get_or slots i None ≡ None)
+free_slot slots i e =
+    let p = position-Some (λ s. not (used s)) slots i None e in
+    (p.0, unused (get_or slots i None) p.1)
+  where
+    unused : {K : Type 0} (s : Option (Used K)) → not (used s) ≡ true → s ≡ None
+    unused None h = refl
+    unused (Some u) h = absurd (both_ways false refl h)
 
 -- a slot that the key uses is used
 pub here_used : {K : Type 0} (eq : K → K → Bool) (k : K) (s : Option (Used K)) → here eq k s ≡ true → used s ≡ true
@@ -109,6 +132,10 @@ came eq slots i key n e gone = record {
 pub kept_keys : {K : Type 0} (slots : List (Option (Used K))) (i : ℕ) (u : Used K) (n : ℕ) → get_or slots i None ≡ Some u → keys (set slots i (Some record { key = u.key; count = n })) ≡ keys slots
 kept_keys slots i u n e = map-set_same key_of slots i (Some record { key = u.key; count = n }) None (sym (ap key_of e))
 
+-- what a slot holds after one filter gave its label back
+abbrev pub without_one : {K : Type 0} → Used K → Option (Used K)
+without_one u = cond (leb u.count 1) None (Some record { key = u.key; count = u.count - 1 })
+
 module _ {K : Type 0} (eq : K → K → Bool) (law : (a b : K) → Decides (eq a b) (a ≡ b)) where
   -- what a write that keeps the slot's key leaves
   same_here : (slots : List (Option (Used K))) (i : ℕ) (s : Option (Used K)) → i < length slots → ((k : K) → here eq k s ≡ here eq k (get_or slots i None)) → (j : ℕ) (k : K) → here eq k (get_or (set slots i s) j None) ≡ here eq k (get_or slots j None)
@@ -175,6 +202,12 @@ module _ {K : Type 0} (eq : K → K → Bool) (law : (a b : K) → Decides (eq a
 
   pub within : (slots : List (Option (Used K))) (k : K) (j : ℕ) → here eq k (get_or slots j None) ≡ true → j < length slots
   within slots k j h = ⊎_elim (λ (p : j < length slots). p) (λ (p : length slots ≤ j). absurd (both_ways (here eq k (get_or slots j None)) (ap (here eq k) (get_or_past slots j None p)) h)) (cases_lt j (length slots))
+
+  -- the label of a key, where a slot has it
+  pub label_or_none : (slots : List (Option (Used K))) (k : K) (r : Option ℕ) → length slots ≡ 96 → r ≡ position (here eq k) slots
+      → MatchOption r ((i : ℕ) → i < 96 → here eq k (get_or slots i None) ≡ false) (λ l. (l < 96) × (here eq k (get_or slots l None) ≡ true))
+  label_or_none slots k None size e = λ i l. none_passes (here eq k) slots None (sym e) i (omega arith)
+  label_or_none slots k (Some i) size e = let p = position-Some (here eq k) slots i None (sym e) in (omega (arith, p.0), p.1)
 
   -- a new key into a free slot
   pub entered : (slots : List (Option (Used K))) (front back : List (Standing K)) (i : ℕ) (key : K) → Labelled eq slots (front ++ back) → i < length slots → get_or slots i None ≡ None
@@ -285,6 +318,24 @@ module _ {K : Type 0} (eq : K → K → Bool) (law : (a b : K) → Decides (eq a
 
   pub own_key : (slots : List (Option (Used K))) (front back : List (Standing K)) (i : ℕ) (k : K) (u : Used K) → Labelled eq slots (front ++ standing k i ∷ back) → get_or slots i None ≡ Some u → k ≡ u.key
   own_key slots front back i k u h e = (law k u.key).0 (ap (here eq k) (sym e) ∙ own slots front back i k h)
+
+  pub given_back : (slots : List (Option (Used K))) (front back : List (Standing K)) (i : ℕ) (u : Used K) (key : K) → Labelled eq slots (front ++ standing key i ∷ back) → i < length slots → get_or slots i None ≡ Some u
+      → (u.key ≡ key) × (leb u.count 1 ≡ eqb (occurrences eq key (front ++ back)) 0) × Labelled eq (set slots i (without_one u)) (front ++ back)
+  given_back slots front back i u key h l e =
+      let same = own_key slots front back i key u h e in
+      let own_h = subst (λ (k : K). Labelled eq slots (front ++ standing k i ∷ back)) same h in
+      let left : (leb u.count 1 ≡ eqb (occurrences eq u.key (front ++ back)) 0) × Labelled eq (set slots i (without_one u)) (front ++ back) =
+      elim (cases_lt 1 u.count) [
+        | inl many ↦
+            let new : Option (Used K) = Some record { key = u.key; count = u.count - 1 } in
+            let made = lowered slots front back i u own_h l e many in
+            let stays = present (set slots i new) (front ++ back) u.key i made (omega (arith, length-set slots i new)) (ap (here eq u.key) (get_or-set_same slots i new None l) ∙ (law u.key u.key).1 refl) in
+            (lt-leb u.count 1 many ∙ sym (ne_eqb (occurrences eq u.key (front ++ back)) 0 (λ z. omega arith)), rw (lt-leb u.count 1 many) made)
+        | inr few ↦
+            let one : u.count ≡ 1 = omega (arith, subst (λ (t : Option (Used K)). used t ≡ true → 0 < uses t) e (h.live i) refl) in
+            (le-leb u.count 1 few ∙ sym (eq-eqb (occurrences eq u.key (front ++ back)) 0 (last_of slots front back i u own_h l e one)), rw (le-leb u.count 1 few) (cleared slots front back i u own_h l e one))
+      ] in
+      (sym same, subst (λ (k : K). leb u.count 1 ≡ eqb (occurrences eq k (front ++ back)) 0) (sym same) left.0, left.1)
 
   -- two standing filters have one label exactly when they have one key
   pub one_label : (slots : List (Option (Used K))) (fs : List (Standing K)) → Labelled eq slots fs → OneLabel fs

@@ -1,6 +1,8 @@
 // A label table: which key has which label, and how many standing filters have it.
 ghost use Rattle.std.specs.Prelude.{◌≡◌, length};
 
+use parts::marks::PLACES;
+
 // A key in use, and how many standing filters have it.
 #[derive(Clone, Copy)]
 pub struct Used<K> {
@@ -11,11 +13,12 @@ pub struct Used<K> {
 // A slot for each label, free or in use.
 #[derive(Drop)]
 pub struct LabelTable<K> {
-    pub(crate) slots: [Option<Used<K>>; 96],
+    pub(crate) slots: [Option<Used<K>>; PLACES],
     ghost size: { length slots ≡ 96 },
 }
 
 // The label that a key got, and whether it came into use.
+// A struct, since both cases carry the label and callers add up the flags.
 #[derive(Clone, Copy)]
 pub struct Acquired {
     pub label: u8,
@@ -23,6 +26,7 @@ pub struct Acquired {
 }
 
 // The key whose label was given back, and whether the label was freed.
+// A struct, since both cases carry the key.
 #[derive(Clone, Copy)]
 pub struct Released<K> {
     pub key: K,

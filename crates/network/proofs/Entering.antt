@@ -95,21 +95,21 @@ pub fresh_more : (fs : List Filed) (fields labels : List ℕ) (k x new : ℕ) (b
 fresh_more fs fields labels k x new b e h = fresh_same fs (filed fields labels) k new b e h ∙ sym (fresh_kept fs fields labels k x (k + 1) (omega arith))
 
 module _ {S : Type 0} (shows : S → Meaning Pair → Type 0) where
-  abbrev BoardStands : Board Pair S Pair → List (Standing Pair) → ℕ → Type 0
+  abbrev BoardStands : Board Pair S → List (Standing Pair) → ℕ → Type 0
   BoardStands b fs n = Stands same_pair shows b.table.slots b.part fs n
 
   -- the node as a loop over the nodes reaches it
-  pub node_before : (nodes nodes₀ : List (Board Pair S Pair)) (k : ℕ) (d : Board Pair S Pair) (before after : List Filed) (ns : List ℕ) → k < 5
-      → ((j : ℕ) (d : Board Pair S Pair) → k ≤ j → get_or nodes j d ≡ get_or nodes₀ j d)
+  pub node_before : (nodes nodes₀ : List (Board Pair S)) (k : ℕ) (d : Board Pair S) (before after : List Filed) (ns : List ℕ) → k < 5
+      → ((j : ℕ) (d : Board Pair S) → k ≤ j → get_or nodes j d ≡ get_or nodes₀ j d)
       → Nodes shows nodes₀ (before ++ after) ns 5
       → BoardStands (get_or nodes k d) (map (at_node k) before ++ map (at_node k) after) (get_or ns k 0)
   node_before nodes nodes₀ k d before after ns l kept s =
       subst (λ (fs : List (Standing Pair)). BoardStands (get_or nodes k d) fs (get_or ns k 0)) (map-append (at_node k) before after)
-      (subst (λ (x : Board Pair S Pair). BoardStands x (map (at_node k) (before ++ after)) (get_or ns k 0)) (sym (kept k d (omega arith)))
+      (subst (λ (x : Board Pair S). BoardStands x (map (at_node k) (before ++ after)) (get_or ns k 0)) (sym (kept k d (omega arith)))
       (s k d l))
 
   -- a filter has entered the nodes up to k
-  pub chained : (nodes : List (Board Pair S Pair)) (k : ℕ) (b : Board Pair S Pair) (before after : List Filed) (fields labels : List ℕ) (x : ℕ) (ns : List ℕ) (p : Pair)
+  pub chained : (nodes : List (Board Pair S)) (k : ℕ) (b : Board Pair S) (before after : List Filed) (fields labels : List ℕ) (x : ℕ) (ns : List ℕ) (p : Pair)
       → k < length nodes → k + 1 < length labels → p ≡ key_at k (filed fields labels)
       → Nodes shows nodes (before ++ filed fields labels ∷ after) ns k
       → BoardStands b (map (at_node k) before ++ standing p x ∷ map (at_node k) after) (get_or ns k 0)
@@ -117,33 +117,33 @@ module _ {S : Type 0} (shows : S → Meaning Pair → Type 0) where
   chained nodes k b before after fields labels x ns p ln ll key old new j d lt =
       ⊎_elim
       (λ (e : j ≡ k). subst (λ (n : ℕ). BoardStands (get_or (set nodes k b) n d) (map (at_node n) (before ++ filed fields (set labels (k + 1) x) ∷ after)) (get_or ns n 0)) (sym e)
-      (subst (λ (c : Board Pair S Pair). BoardStands c (map (at_node k) (before ++ filed fields (set labels (k + 1) x) ∷ after)) (get_or ns k 0)) (sym (get_or-set_same nodes k b d ln))
+      (subst (λ (c : Board Pair S). BoardStands c (map (at_node k) (before ++ filed fields (set labels (k + 1) x) ∷ after)) (get_or ns k 0)) (sym (get_or-set_same nodes k b d ln))
       (subst (λ (fs : List (Standing Pair)). BoardStands b fs (get_or ns k 0)) (sym (map_split k before after (filed fields (set labels (k + 1) x))))
       (subst (λ (f : Standing Pair). BoardStands b (map (at_node k) before ++ f ∷ map (at_node k) after) (get_or ns k 0)) (ap (λ (q : Pair). standing q x) key ∙ node_new fields labels k x ll) new))))
       (λ (ne : j ≡ k → ⊥).
       let l : j < k = omega arith in
-      subst (λ (c : Board Pair S Pair). BoardStands c (map (at_node j) (before ++ filed fields (set labels (k + 1) x) ∷ after)) (get_or ns j 0)) (sym (get_or-set_other nodes k j b d ne))
+      subst (λ (c : Board Pair S). BoardStands c (map (at_node j) (before ++ filed fields (set labels (k + 1) x) ∷ after)) (get_or ns j 0)) (sym (get_or-set_other nodes k j b d ne))
       (subst (λ (fs : List (Standing Pair)). BoardStands (get_or nodes j d) fs (get_or ns j 0)) (sym (map_split j before after (filed fields (set labels (k + 1) x))))
       (subst (λ (f : Standing Pair). BoardStands (get_or nodes j d) (map (at_node j) before ++ f ∷ map (at_node j) after) (get_or ns j 0)) (sym (node_kept fields labels j k x l))
       (subst (λ (fs : List (Standing Pair)). BoardStands (get_or nodes j d) fs (get_or ns j 0)) (map_split j before after (filed fields labels)) (old j d l)))))
       (cases_eq j k)
 
   -- a filter has left the nodes up to k
-  pub unchained : (nodes : List (Board Pair S Pair)) (k : ℕ) (b : Board Pair S Pair) (before after : List Filed) (ns : List ℕ) → k < length nodes
+  pub unchained : (nodes : List (Board Pair S)) (k : ℕ) (b : Board Pair S) (before after : List Filed) (ns : List ℕ) → k < length nodes
       → Nodes shows nodes (before ++ after) ns k
       → BoardStands b (map (at_node k) before ++ map (at_node k) after) (get_or ns k 0)
       → Nodes shows (set nodes k b) (before ++ after) ns (k + 1)
   unchained nodes k b before after ns ln old new j d lt =
       ⊎_elim
       (λ (e : j ≡ k). subst (λ (n : ℕ). BoardStands (get_or (set nodes k b) n d) (map (at_node n) (before ++ after)) (get_or ns n 0)) (sym e)
-      (subst (λ (c : Board Pair S Pair). BoardStands c (map (at_node k) (before ++ after)) (get_or ns k 0)) (sym (get_or-set_same nodes k b d ln))
+      (subst (λ (c : Board Pair S). BoardStands c (map (at_node k) (before ++ after)) (get_or ns k 0)) (sym (get_or-set_same nodes k b d ln))
       (subst (λ (fs : List (Standing Pair)). BoardStands b fs (get_or ns k 0)) (sym (map-append (at_node k) before after)) new)))
-      (λ (ne : j ≡ k → ⊥). subst (λ (c : Board Pair S Pair). BoardStands c (map (at_node j) (before ++ after)) (get_or ns j 0)) (sym (get_or-set_other nodes k j b d ne)) (old j d (omega arith)))
+      (λ (ne : j ≡ k → ⊥). subst (λ (c : Board Pair S). BoardStands c (map (at_node j) (before ++ after)) (get_or ns j 0)) (sym (get_or-set_other nodes k j b d ne)) (old j d (omega arith)))
       (cases_eq j k)
 
 -- one node more whose store was told only if it had to be
-pub untold_more : {S : Type 0} (nodes₀ nodes : List (Board Pair S Pair)) (k : ℕ) (b : Board Pair S Pair) (fs : List Filed) (f g : Filed) (d₀ : Board Pair S Pair) → k < length nodes
-    → ((j : ℕ) (d : Board Pair S Pair) → k ≤ j → get_or nodes j d ≡ get_or nodes₀ j d)
+pub untold_more : {S : Type 0} (nodes₀ nodes : List (Board Pair S)) (k : ℕ) (b : Board Pair S) (fs : List Filed) (f g : Filed) (d₀ : Board Pair S) → k < length nodes
+    → ((j : ℕ) (d : Board Pair S) → k ≤ j → get_or nodes j d ≡ get_or nodes₀ j d)
     → ((j : ℕ) → j ≤ k → key_at j g ≡ key_at j f)
     → (unused fs f k ≡ false → b.part ≡ (get_or nodes k d₀).part)
     → Untold nodes₀ nodes fs f k → Untold nodes₀ (set nodes k b) fs g (k + 1)
@@ -153,8 +153,8 @@ untold_more {S} nodes₀ nodes k b fs f g d₀ ln kept keys here old j d lt u =
     (λ (e : j ≡ k).
     let s : get_or (set nodes k b) j d ≡ b = ap (λ (n : ℕ). get_or (set nodes k b) n d) e ∙ get_or-set_same nodes k b d ln in
     let o : get_or nodes k d₀ ≡ get_or nodes₀ j d = get_or_default nodes k d₀ d ln ∙ kept k d (omega arith) ∙ ap (λ (n : ℕ). get_or nodes₀ n d) (sym e) in
-    ap (λ (x : Board Pair S Pair). x.part) s ∙ here (subst (λ (n : ℕ). unused fs f n ≡ false) e u') ∙ ap (λ (x : Board Pair S Pair). x.part) o)
-    (λ (ne : j ≡ k → ⊥). ap (λ (x : Board Pair S Pair). x.part) (get_or-set_other nodes k j b d ne) ∙ old j d (omega arith) u')
+    ap (λ (x : Board Pair S). x.part) s ∙ here (subst (λ (n : ℕ). unused fs f n ≡ false) e u') ∙ ap (λ (x : Board Pair S). x.part) o)
+    (λ (ne : j ≡ k → ⊥). ap (λ (x : Board Pair S). x.part) (get_or-set_other nodes k j b d ne) ∙ old j d (omega arith) u')
     (cases_eq j k)
 
 -- the keys at the nodes so far are those of the filter with one label more
@@ -162,15 +162,15 @@ pub keys_kept : (fields labels : List ℕ) (k x : ℕ) (j : ℕ) → j ≤ k →
 keys_kept fields labels k x j l = key_kept fields labels j k x l
 
 -- one node more that keeps what its store may have been asked
-pub asks_more : {S : Type 0} (agrees : S → List Pair → Type 0) (nodes₀ nodes : List (Board Pair S Pair)) (k : ℕ) (b d₀ : Board Pair S Pair) → k < length nodes
+pub asks_more : {S : Type 0} (agrees : S → List Pair → Type 0) (nodes₀ nodes : List (Board Pair S)) (k : ℕ) (b d₀ : Board Pair S) → k < length nodes
     → ((l : List Pair) → agrees (get_or nodes k d₀).part l → agrees b.part l)
     → AsksKept agrees nodes₀ nodes → AsksKept agrees nodes₀ (set nodes k b)
 asks_more {S} agrees nodes₀ nodes k b d₀ ln here old j d l a =
     ⊎_elim
     (λ (e : j ≡ k).
-    subst (λ (x : Board Pair S Pair). agrees x.part l) (sym (ap (λ (n : ℕ). get_or (set nodes k b) n d) e ∙ get_or-set_same nodes k b d ln))
-    (here l (subst (λ (x : Board Pair S Pair). agrees x.part l) (ap (λ (n : ℕ). get_or nodes n d) e ∙ get_or_default nodes k d d₀ ln) (old j d l a))))
-    (λ (ne : j ≡ k → ⊥). subst (λ (x : Board Pair S Pair). agrees x.part l) (sym (get_or-set_other nodes k j b d ne)) (old j d l a))
+    subst (λ (x : Board Pair S). agrees x.part l) (sym (ap (λ (n : ℕ). get_or (set nodes k b) n d) e ∙ get_or-set_same nodes k b d ln))
+    (here l (subst (λ (x : Board Pair S). agrees x.part l) (ap (λ (n : ℕ). get_or nodes n d) e ∙ get_or_default nodes k d d₀ ln) (old j d l a))))
+    (λ (ne : j ≡ k → ⊥). subst (λ (x : Board Pair S). agrees x.part l) (sym (get_or-set_other nodes k j b d ne)) (old j d l a))
     (cases_eq j k)
 
 -- the field that the loop reads is the one at the next position

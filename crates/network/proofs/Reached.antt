@@ -74,7 +74,7 @@ all_swap : {X : Type 0} (Q : ℕ → X → Type 0) (n : ℕ) (xs : List X) → (
 all_swap Q n [] h = tt
 all_swap Q n (x ∷ xs) h = (λ j l. (h j l).0, all_swap Q n xs (λ j l. (h j l).1))
 
-module _ {S : Type 0} (shows : S → Meaning Pair → Type 0) (d : Board Pair S Pair) (nodes : List (Board Pair S Pair)) (fs : List Filed) (ns : List ℕ) (n : ℕ) (s : Nodes shows nodes fs ns n) where
+module _ {S : Type 0} (shows : S → Meaning Pair → Type 0) (d : Board Pair S) (nodes : List (Board Pair S)) (fs : List Filed) (ns : List ℕ) (n : ℕ) (s : Nodes shows nodes fs ns n) where
   -- each of the nodes holds each filter's combination
   all_hold : AllByRecursion (λ f. (j : ℕ) → j < n → Holds (places_of d nodes) j f) fs
   all_hold =

@@ -20,15 +20,15 @@ labels_at [] j d l = absurd (omega arith)
 labels_at (f ∷ fs) zero d l = refl
 labels_at (f ∷ fs) (suc j) d l = labels_at fs j d (omega arith)
 
-module _ {S : Type 0} (shows : S → Meaning Pair → Type 0) (agrees : S → List Pair → Type 0) (d : Board Pair S Pair) (old : List (Board Pair S Pair)) (found : ℕ → List ℕ) (ns : List ℕ) where
+module _ {S : Type 0} (shows : S → Meaning Pair → Type 0) (agrees : S → List Pair → Type 0) (d : Board Pair S) (old : List (Board Pair S)) (found : ℕ → List ℕ) (ns : List ℕ) where
   abbrev R : ℕ → List ℕ
   R k = reached (places_of d old) found k
 
   -- what is said of a node that was asked
-  abbrev Here : ℕ → Board Pair S Pair → Type 0
+  abbrev Here : ℕ → Board Pair S → Type 0
   Here j y = (y.table ≡ (get_or old j d).table) × Questioned shows agrees (get_or old j d).part y.part (meaning (places_of d old j) (get_or ns j 0)) (product (R j) (found (j + 1))) × EachPair (R j) (found (j + 1)) (product (R j) (found (j + 1)))
 
-  pub turn : (nodes : List (Board Pair S Pair)) (k : ℕ) (o b : Board Pair S Pair) (left right list : List ℕ) (a total : ℕ) → k < length nodes → length (places_of d old k) ≡ 96
+  pub turn : (nodes : List (Board Pair S)) (k : ℕ) (o b : Board Pair S) (left right list : List ℕ) (a total : ℕ) → k < length nodes → length (places_of d old k) ≡ 96
       → o ≡ get_or old k d → left ≡ R k → right ≡ found (k + 1)
       → b.table ≡ o.table
       → Crossed shows agrees o.part b.part (meaning (keys o.table.slots) (get_or ns k 0)) left right list a
@@ -40,12 +40,12 @@ module _ {S : Type 0} (shows : S → Meaning Pair → Type 0) (agrees : S → Li
       let x' : Crossed shows agrees (get_or old k d).part b.part (meaning (places k) (get_or ns k 0)) (R k) (found (k + 1)) list a =
       subst (λ (rs : List ℕ). Crossed shows agrees (get_or old k d).part b.part (meaning (places k) (get_or ns k 0)) (R k) rs list a) r
       (subst (λ (ls : List ℕ). Crossed shows agrees (get_or old k d).part b.part (meaning (places k) (get_or ns k 0)) ls right list a) l
-      (subst (λ (y : Board Pair S Pair). Crossed shows agrees y.part b.part (meaning (keys y.table.slots) (get_or ns k 0)) left right list a) same x)) in (
+      (subst (λ (y : Board Pair S). Crossed shows agrees y.part b.part (meaning (keys y.table.slots) (get_or ns k 0)) left right list a) same x)) in (
         λ j lj. ⊎_elim
             (λ (q : j ≡ k). subst (λ (i : ℕ). Here i (get_or (set nodes k b) i d)) (sym q)
-            (subst (λ (y : Board Pair S Pair). Here k y) (sym (get_or-set_same nodes k b d ln))
-            (kept ∙ ap (λ (y : Board Pair S Pair). y.table) same, x'.questioned, x'.each_pair)))
-            (λ (ne : j ≡ k → ⊥). subst (λ (y : Board Pair S Pair). Here j y) (sym (get_or-set_other nodes k j b d ne)) (asked j (omega arith)))
+            (subst (λ (y : Board Pair S). Here k y) (sym (get_or-set_same nodes k b d ln))
+            (kept ∙ ap (λ (y : Board Pair S). y.table) same, x'.questioned, x'.each_pair)))
+            (λ (ne : j ≡ k → ⊥). subst (λ (y : Board Pair S). Here j y) (sym (get_or-set_other nodes k j b d ne)) (asked j (omega arith)))
             (cases_eq j k),
         x'.labels_found ∙ ap R (sym up),
         ap (λ (t : ℕ). t + a) e ∙ ap (λ (m : ℕ). pairs places found k + m) x'.pairs_asked ∙ ap (pairs places found) (sym up),

@@ -34,8 +34,8 @@ at_node j f = standing (key_at j f) (slice_index f.along (j + 1))
 
 -- each of the first k nodes labels the filters' combinations, and its store holds exactly those in use, at their labels;
 -- asked has how often each store was asked
-abbrev pub Nodes : {S : Type 0} → (S → Meaning Pair → Type 0) → List (Board Pair S Pair) → List Filed → List ℕ → ℕ → Type 0
-Nodes {S} shows nodes fs asked k = (j : ℕ) (d : Board Pair S Pair) → j < k → Stands same_pair shows (get_or nodes j d).table.slots (get_or nodes j d).part (map (at_node j) fs) (slice_index asked j)
+abbrev pub Nodes : {S : Type 0} → (S → Meaning Pair → Type 0) → List (Board Pair S) → List Filed → List ℕ → ℕ → Type 0
+Nodes {S} shows nodes fs asked k = (j : ℕ) (d : Board Pair S) → j < k → Stands same_pair shows (get_or nodes j d).table.slots (get_or nodes j d).part (map (at_node j) fs) (slice_index asked j)
 
 -- no filter has the combination that node j makes for f
 abbrev pub unused : List Filed → Filed → ℕ → Bool
@@ -47,12 +47,12 @@ fresh fs f zero = 0
 fresh fs f (suc k) = fresh fs f k + cond (unused fs f k) 1 0
 
 -- each of the first k stores is the same value as before, unless no other filter has f's combination at its node
-abbrev pub Untold : {S : Type 0} → List (Board Pair S Pair) → List (Board Pair S Pair) → List Filed → Filed → ℕ → Type 0
-Untold {S} old new fs f k = (j : ℕ) (d : Board Pair S Pair) → j < k → unused fs f j ≡ false → (get_or new j d).part ≡ (get_or old j d).part
+abbrev pub Untold : {S : Type 0} → List (Board Pair S) → List (Board Pair S) → List Filed → Filed → ℕ → Type 0
+Untold {S} old new fs f k = (j : ℕ) (d : Board Pair S) → j < k → unused fs f j ≡ false → (get_or new j d).part ≡ (get_or old j d).part
 
 -- what a store may have been asked before, it may have been asked now
-abbrev pub AsksKept : {S : Type 0} → (S → List Pair → Type 0) → List (Board Pair S Pair) → List (Board Pair S Pair) → Type 0
-AsksKept {S} agrees old new = (j : ℕ) (d : Board Pair S Pair) (l : List Pair) → agrees (get_or old j d).part l → agrees (get_or new j d).part l
+abbrev pub AsksKept : {S : Type 0} → (S → List Pair → Type 0) → List (Board Pair S) → List (Board Pair S) → Type 0
+AsksKept {S} agrees old new = (j : ℕ) (d : Board Pair S) (l : List Pair) → agrees (get_or old j d).part l → agrees (get_or new j d).part l
 
 -- whether two filters have the same labels in the first fields of the order, up to position k, from 0
 abbrev pub alike : ℕ → Filed → Filed → Bool

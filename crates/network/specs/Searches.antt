@@ -18,7 +18,7 @@ abbrev pub found_at : List ℕ → List Found → ℕ → List ℕ
 found_at order fs j = found_in fs (slice_index order j - 1)
 
 -- what the table of node j has in use
-abbrev pub places_of : {S : Type 0} → Board Pair S Pair → List (Board Pair S Pair) → ℕ → List (Option Pair)
+abbrev pub places_of : {S : Type 0} → Board Pair S → List (Board Pair S) → ℕ → List (Option Pair)
 places_of d nodes j = keys (slice_index_or nodes j d).table.slots
 
 -- the labels that the search has after k nodes: those of the combinations in use whose two labels it had
@@ -48,7 +48,7 @@ pairs_by_rows found fs (suc k) = pairs_by_rows found fs k + rows_found found fs 
 
 -- each of the first k nodes keeps its table, and its store was asked each pair of a label that the search had before it
 -- and a label found in its field, once
-abbrev pub AskedAlong : {S : Type 0} → (S → Meaning Pair → Type 0) → (S → List Pair → Type 0) → Board Pair S Pair → List (Board Pair S Pair) → List (Board Pair S Pair) → (ℕ → List ℕ) → List ℕ → ℕ → Type 0
+abbrev pub AskedAlong : {S : Type 0} → (S → Meaning Pair → Type 0) → (S → List Pair → Type 0) → Board Pair S → List (Board Pair S) → List (Board Pair S) → (ℕ → List ℕ) → List ℕ → ℕ → Type 0
 AskedAlong shows agrees d old new found ns k = (j : ℕ) → j < k →
     let left = reached (places_of d old) found j in
     ((slice_index_or new j d).table ≡ (slice_index_or old j d).table)

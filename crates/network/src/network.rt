@@ -26,7 +26,7 @@ pub struct Entered {
 }
 
 #[derive(Drop)]
-pub struct Network<S: Store> {
+pub struct Network<S> {
     pub(crate) order: NetworkOrder,
     pub(crate) nodes: [Board<Pair, S>; NODES],
 }
@@ -46,7 +46,7 @@ impl<S: Store> Network<S> {
     // A network in this order over five stores, emptied, with every label free.
     pub fn make(order: NetworkOrder, a: S, b: S, c: S, d: S, e: S) -> Network<S>
         ensures stands { Nodes S.Told.shows result.nodes [] [] 5 }
-        ensures asked { (j : ℕ) (x : Board Pair S Pair) → j < 5 → S.Told.agrees (slice_index_or result.nodes j x).part [] }
+        ensures asked { (j : ℕ) (x : Board Pair S) → j < 5 → S.Told.agrees (slice_index_or result.nodes j x).part [] }
         ensures order { result.order ≡ order }
     {
         let first = Board::make(a);

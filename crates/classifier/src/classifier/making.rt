@@ -2,28 +2,22 @@
 ghost use Rattle.std.specs.Prelude.{◌≡◌, ℕ, ◌<◌, List, [], slice_index_or};
 ghost use Rattle.stores.specs.declared.pairs.Pair.{Pair};
 ghost use Rattle.labelling.specs.declared.board.Board.{Board};
-ghost use Rattle.classifier.specs.Standing.{never_asked, Stands};
+ghost use Rattle.classifier.specs.Standing.{never_asked};
 
 use crate::classifier::Classifier;
+use crate::sorter::Sorter;
+use arrayvec::ArrayVec;
 use columns::columns::Columns;
 use engines::engine::Engine;
-use entries::filter_labels::FilterLabels;
 use fields::flags::FlagMask;
-use fields::orders::{FIELDS, NetworkOrder};
+use fields::orders::NetworkOrder;
 use fields::prefixes::Prefix;
 use fields::protocols::Protocol;
 use fields::ranges::PortRange;
-use filter_table::shifts::CAPACITY;
 use filter_table::table::FilterTable;
 use network::network::Network;
 use stores::pairs::Pair;
 use stores::store::Store;
-
-// What lies beside a row of the table that is not in use.
-const UNLABELLED: FilterLabels = FilterLabels {
-    fields: [0; FIELDS],
-    nodes: [0; FIELDS],
-};
 
 impl<
     A: Engine<Prefix>,
@@ -45,9 +39,9 @@ impl<
         stores: (S, S, S, S, S),
         order: NetworkOrder,
     ) -> Classifier<A, B, C, D, E, F, S>
-        ensures stands { Stands A.Told.shows B.Told.shows C.Told.shows D.Told.shows E.Told.shows F.Told.shows S.Told.shows result [] never_asked }
-        ensures engines { A.Told.agrees result.columns.source [] × B.Told.agrees result.columns.destination [] × C.Told.agrees result.columns.source_port [] × D.Told.agrees result.columns.destination_port [] × E.Told.agrees result.columns.protocol [] × F.Told.agrees result.columns.flags [] }
-        ensures stores { (j : ℕ) (z : Board Pair S Pair) → j < 5 → S.Told.agrees (slice_index_or result.network.nodes j z).part [] }
+        ensures stands { ⟦<Classifier<A, B, C, D, E, F, S> as Sorter>⟧.stands result [] never_asked }
+        ensures engines { A.Told.agrees result.columns.source.part [] × B.Told.agrees result.columns.destination.part [] × C.Told.agrees result.columns.source_port.part [] × D.Told.agrees result.columns.destination_port.part [] × E.Told.agrees result.columns.protocol.part [] × F.Told.agrees result.columns.flags.part [] }
+        ensures stores { (j : ℕ) (z : Board Pair S) → j < 5 → S.Told.agrees (slice_index_or result.network.nodes j z).part [] }
         ensures order { result.network.order ≡ order }
     {
         let (first, second, third, fourth, fifth) = stores;
@@ -62,7 +56,7 @@ impl<
         let network = Network::make(order, first, second, third, fourth, fifth);
         Classifier {
             table: FilterTable::empty(),
-            labels: [UNLABELLED; CAPACITY],
+            labels: ArrayVec::new(),
             columns,
             network,
         }

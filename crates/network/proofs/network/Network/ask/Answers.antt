@@ -51,7 +51,7 @@ loop-k-preserved g c =
           let same : o ≡ get_or old k d = get_or_default nodes k c.index-self-k.result d ln ∙ inv.3 k d (omega arith) in
           let here = s k d (omega arith) in
           let y = c.in_ok-crossing.ensures.crossed (map (at_node k) fs) (get_or ns k 0)
-          (subst (λ (b : Board Pair g.row.S.Denot Pair). Stands same_pair g.S.Told.shows b.table.slots b.part (map (at_node k) fs) (get_or ns k 0)) (sym same) here)
+          (subst (λ (b : Board Pair g.row.S.Denot). Stands same_pair g.S.Told.shows b.table.slots b.part (map (at_node k) fs) (get_or ns k 0)) (sym same) here)
           (subst Labels (sym l) i.3) (subst Labels (sym r) (lf (get_or order.fields (k + 1) 0 - 1))) in
           turn g.S.Told.shows g.S.Told.agrees d old found ns nodes k o c.ask_node.new.node (take (c.loop-k.count - 0) c.loop-k.left) (take (other.count - 0) other.labels) _ x.asked c.loop-k.asked ln
           (length-map (get_or old k d).table.slots key_of ∙ here.labelled.size) same l r c.in_ok-crossing.ensures.kept y i.0 i.2,
@@ -79,7 +79,7 @@ returns-in_err-crossing g c =
           let same : o ≡ get_or old k d = get_or_default nodes k c.index-self-k.result d ln ∙ inv.3 k d (omega arith) in
           let here = s k d (omega arith) in
           absurd (c.in_err-crossing.ensures.crossed (map (at_node k) fs) (get_or ns k 0)
-          (subst (λ (b : Board Pair g.row.S.Denot Pair). Stands same_pair g.S.Told.shows b.table.slots b.part (map (at_node k) fs) (get_or ns k 0)) (sym same) here)
+          (subst (λ (b : Board Pair g.row.S.Denot). Stands same_pair g.S.Told.shows b.table.slots b.part (map (at_node k) fs) (get_or ns k 0)) (sym same) here)
           (subst Labels (sym l) i.3) (subst Labels (sym r) (lf (get_or order.fields (k + 1) 0 - 1))));
       laws = λ fs ns d s first. (one_label g.S.Told.shows d c.args.self.now.nodes fs ns 5 s first, λ found. by_rows g.S.Told.shows d c.args.self.now.nodes fs ns 5 s first found 5 (omega arith));
       order = inv.4;

@@ -9,9 +9,9 @@ use Rattle.network.proofs.network.Network.ask.Given as goal
 
 abbrev pub invariant-loop-k : goal.invariant-loop-k
 invariant-loop-k g l = (l.count ≤ 96) × (length l.left ≡ 96) × (l.asked ≤ 9216 * l.k)
-    × ((j : ℕ) (d : Board Pair g.row.S.Denot Pair) → l.k ≤ j → get_or l.self.nodes j d ≡ get_or l.initial.self.nodes j d)
+    × ((j : ℕ) (d : Board Pair g.row.S.Denot) → l.k ≤ j → get_or l.self.nodes j d ≡ get_or l.initial.self.nodes j d)
     × (l.self.order ≡ l.initial.self.order)
-    × ((fs : List Filed) (ns : List ℕ) (d : Board Pair g.row.S.Denot Pair) → Nodes g.S.Told.shows l.initial.self.nodes fs ns 5 → ((j : ℕ) → Labels (found_in l.fields j))
+    × ((fs : List Filed) (ns : List ℕ) (d : Board Pair g.row.S.Denot) → Nodes g.S.Told.shows l.initial.self.nodes fs ns 5 → ((j : ℕ) → Labels (found_in l.fields j))
     → let found = found_at l.initial.self.order.fields l.fields in
     let places = places_of d l.initial.self.nodes in
     AskedAlong g.S.Told.shows g.S.Told.agrees d l.initial.self.nodes l.self.nodes found ns l.k

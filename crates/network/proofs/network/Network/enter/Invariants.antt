@@ -7,7 +7,7 @@ use Rattle.network.proofs.network.Network.enter.Given as goal
 
 abbrev pub invariant-loop-k : goal.invariant-loop-k
 invariant-loop-k g l = (l.new ≤ l.k) × (length l.labels ≡ 6)
-    × ((j : ℕ) (d : Board Pair g.row.S.Denot Pair) → l.k ≤ j → get_or l.self.nodes j d ≡ get_or l.initial.self.nodes j d)
+    × ((j : ℕ) (d : Board Pair g.row.S.Denot) → l.k ≤ j → get_or l.self.nodes j d ≡ get_or l.initial.self.nodes j d)
     × AsksKept g.S.Told.agrees l.initial.self.nodes l.self.nodes
     × (l.self.order ≡ l.initial.self.order)
     × ((before after : List Filed) (ns : List ℕ) → Nodes g.S.Told.shows l.initial.self.nodes (before ++ after) ns 5 → length (before ++ after) < 96 → Labels l.fields

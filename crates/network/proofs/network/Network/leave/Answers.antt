@@ -11,13 +11,13 @@ use Rattle.network.proofs.Entering.{map_split, bit_one, fresh_same, unused_split
 use Rattle.network.proofs.network.Network.leave.Goals as goal
 
 -- the node as the loop reaches it
-here : {S : Type 0} (shows : S → Meaning Pair → Type 0) (nodes nodes₀ : List (Board Pair S Pair)) (k : ℕ) (d : Board Pair S Pair) (before after : List Filed) (f : Filed) (ns : List ℕ) → k < 5
-    → ((j : ℕ) (d : Board Pair S Pair) → k ≤ j → get_or nodes j d ≡ get_or nodes₀ j d)
+here : {S : Type 0} (shows : S → Meaning Pair → Type 0) (nodes nodes₀ : List (Board Pair S)) (k : ℕ) (d : Board Pair S) (before after : List Filed) (f : Filed) (ns : List ℕ) → k < 5
+    → ((j : ℕ) (d : Board Pair S) → k ≤ j → get_or nodes j d ≡ get_or nodes₀ j d)
     → Nodes shows nodes₀ (before ++ f ∷ after) ns 5
     → Stands same_pair shows (get_or nodes k d).table.slots (get_or nodes k d).part (map (at_node k) before ++ at_node k f ∷ map (at_node k) after) (get_or ns k 0)
 here {S} shows nodes nodes₀ k d before after f ns l kept s =
     subst (λ (fs : List (Standing Pair)). Stands same_pair shows (get_or nodes k d).table.slots (get_or nodes k d).part fs (get_or ns k 0)) (map_split k before after f)
-    (subst (λ (x : Board Pair S Pair). Stands same_pair shows x.table.slots x.part (map (at_node k) (before ++ f ∷ after)) (get_or ns k 0)) (sym (kept k d (omega arith)))
+    (subst (λ (x : Board Pair S). Stands same_pair shows x.table.slots x.part (map (at_node k) (before ++ f ∷ after)) (get_or ns k 0)) (sym (kept k d (omega arith)))
     (s k d l))
 
 pub loop-k-init : goal.loop-k-init

@@ -2,7 +2,7 @@ use Rattle.std.proofs.Common.{ℕ, List, [], ◌∷◌, map, refl, ◌∙◌}
 use Rattle.filters.specs.declared.filter.Filter.{Filter}
 use Rattle.columns.specs.Fields.{in_field, prefix_eq, range_eq, protocol_eq, flags_eq}
 use Rattle.columns.proofs.OneField.{split, few_too, joined, said_of_all, told_if, six, labels_nil, labels_cons}
-use Rattle.columns.proofs.columns.Columns.enter.Goals as goal
+use Rattle.columns.proofs.serving.ColumnsFields.enter.Goals as goal
 
 pub returns-in_err-a : goal.returns-in_err-a
 returns-in_err-a g c = λ before after ns few s. absurd (c.in_err-a.ensures.entered (map (in_field (λ (x : Filter). x.source) 0) before) (map (in_field (λ (x : Filter). x.source) 0) after) (ns 0) (split (λ (x : Filter). x.source) 0 before after s.source) (few_too (λ (x : Filter). x.source) 0 before after few) refl)

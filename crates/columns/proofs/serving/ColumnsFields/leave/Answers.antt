@@ -2,7 +2,7 @@ use Rattle.std.proofs.Common.{map, ◌∙◌}
 use Rattle.filters.specs.declared.filter.Filter.{Filter}
 use Rattle.columns.specs.Fields.{in_field, prefix_eq, range_eq, protocol_eq, flags_eq}
 use Rattle.columns.proofs.OneField.{parted, merged, said_of_all, told_if, six}
-use Rattle.columns.proofs.columns.Columns.leave.Goals as goal
+use Rattle.columns.proofs.serving.ColumnsFields.leave.Goals as goal
 
 pub returns-in_err-a : goal.returns-in_err-a
 returns-in_err-a g c = λ before after filter ns s. absurd (c.in_err-a.ensures.left (map (in_field (λ (x : Filter). x.source) 0) before) (map (in_field (λ (x : Filter). x.source) 0) after) filter.source (ns 0) (parted (λ (x : Filter). x.source) 0 before after filter c.args.labels s.source))

@@ -1,7 +1,7 @@
 use Rattle.filters.specs.declared.filter.Filter.{Filter}
 use Rattle.columns.specs.Fields.{prefix_eq, range_eq, protocol_eq, flags_eq}
 use Rattle.columns.proofs.OneField.{in_use_of, sum_six}
-use Rattle.columns.proofs.columns.Columns.in_use.Goals as goal
+use Rattle.columns.proofs.serving.ColumnsFields.in_use.Goals as goal
 
 pub returns : goal.returns
 returns g c = λ ps ns s.

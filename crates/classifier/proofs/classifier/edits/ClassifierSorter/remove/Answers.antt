@@ -1,5 +1,4 @@
-use Rattle.std.proofs.Common.{◌≡◌, ℕ, Bool, true, false, List, ◌∷◌, ◌++◌, map, length, Some, None, sym, refl, ap, ◌∙◌, subst, arith}
-use Rattle.std.proofs.lemmas.List.{length-map}
+use Rattle.std.proofs.Common.{◌≡◌, ℕ, Bool, true, false, List, ◌∷◌, ◌++◌, map, Some, None, sym, refl, ap, ◌∙◌, subst, arith}
 use Rattle.std.proofs.lemmas.Result.{err_from_is_err_and}
 use Rattle.fields.specs.Faults.{answer_by}
 use Rattle.filters.specs.declared.rows.FilterRow.{FilterRow}
@@ -10,14 +9,13 @@ use Rattle.filters.specs.Answers.{removed}
 use Rattle.filters.proofs.Checks.{accepted_removal}
 use Rattle.filter_table.specs.declared.table.FilterTable.{FilterTable}
 use Rattle.filter_table.specs.Tables.{held}
-use Rattle.filter_table.proofs.Held.{held_length}
 use Rattle.entries.specs.Entries.{Entry, row_of}
 use Rattle.labelling.proofs.Tells.{some_same}
 use Rattle.classifier.specs.declared.classifier.Classifier.{Classifier}
 use Rattle.classifier.specs.Standing.{Asked, Serves, Stands}
 use Rattle.classifier.specs.Telling.{Told, Gone}
 use Rattle.classifier.proofs.Answered.{refused_answer, accepted_answer, refused_remove, accepted_remove_list, answered_err, answered_ok, some_or_none, Parted, parted}
-use Rattle.classifier.proofs.classifier.Classifier.remove.Goals as goal
+use Rattle.classifier.proofs.classifier.edits.ClassifierSorter.remove.Goals as goal
 
 pub returns-in_err-position : goal.returns-in_err-position
 returns-in_err-position g c =
@@ -50,14 +48,8 @@ returns g c =
     let left : (fs : List FilterRow) (asked : Asked) (h : Stands g.A.Told.shows g.B.Told.shows g.C.Told.shows g.D.Told.shows g.E.Told.shows g.F.Told.shows g.S.Told.shows c.args.self.now fs asked) → (q : Parted id fs h.entries) → Gone g.A.Told.shows g.B.Told.shows g.C.Told.shows g.D.Told.shows g.E.Told.shows g.F.Told.shows g.S.Told.shows g.A.Told.agrees g.B.Told.agrees g.C.Told.agrees g.D.Told.agrees g.E.Told.agrees g.F.Told.agrees g.S.Told.agrees c.args.self.now new q.gone (q.front ++ q.back) asked c.leave.result = λ fs asked h q.
     let s = h.parts in
     let whole = q.whole in
-    let long = ap length h.filters in
-    let same = ap length h.table in
-    let mapped = length-map h.entries row_of in
-    let few = held_length t in
-    let bound = t.few in
-    let cut = ap length whole in
     let parts : Serves g.A.Told.shows g.B.Told.shows g.C.Told.shows g.D.Told.shows g.E.Told.shows g.F.Told.shows g.S.Told.shows c.args.self.now (q.front ++ q.gone ∷ q.back) asked = subst (λ (es : List Entry). Serves g.A.Told.shows g.B.Told.shows g.C.Told.shows g.D.Told.shows g.E.Told.shows g.F.Told.shows g.S.Told.shows c.args.self.now es asked) whole s in
-    let r = c.leave.ensures.left q.front q.back q.gone asked (record { size = parts.size; labels = parts.labels; fields = parts.fields; nodes = parts.nodes; first = parts.first; spare = parts.spare }) (omega arith) (c.count-count.ensures ∙ same ∙ sym long ∙ mapped ∙ cut) (ok.1 ∙ ap (place_of id) h.table ∙ q.place) in
+    let r = c.leave.ensures.left q.front q.back q.gone asked (record { labels = parts.labels; fields = parts.fields; nodes = parts.nodes; first = parts.first; spare = parts.spare }) (ok.1 ∙ ap (place_of id) h.table ∙ q.place) in
     let t = r.told in
     record { serves = r.serves; field_labels = r.field_labels; node_labels = r.node_labels; told = record { source = t.source; destination = t.destination; source_port = t.source_port; destination_port = t.destination_port; protocol = t.protocol; flags = t.flags; stores = t.stores } } in
     let none : (fs : List FilterRow) (asked : Asked) → Stands g.A.Told.shows g.B.Told.shows g.C.Told.shows g.D.Told.shows g.E.Told.shows g.F.Told.shows g.S.Told.shows c.args.self.now fs asked → refusal fs (Remove id) ≡ None = λ fs asked h. ap (λ (gs : List FilterRow). refusal gs (Remove id)) (sym h.table) ∙ ok.0 in

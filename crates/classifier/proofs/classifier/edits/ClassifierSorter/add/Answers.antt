@@ -18,7 +18,7 @@ use Rattle.classifier.specs.declared.classifier.Classifier.{Classifier}
 use Rattle.classifier.specs.Standing.{Asked, Stands}
 use Rattle.classifier.specs.Telling.{Told, Came}
 use Rattle.classifier.proofs.Answered.{refused_answer, accepted_answer, refused_add, accepted_add_list, answered_err, answered_ok, some_or_none, unformed, rank_within, put_entry}
-use Rattle.classifier.proofs.classifier.Classifier.add.Goals as goal
+use Rattle.classifier.proofs.classifier.edits.ClassifierSorter.add.Goals as goal
 
 pub returns-in_err-filter : goal.returns-in_err-filter
 returns-in_err-filter g c =
@@ -70,7 +70,7 @@ returns g c =
     let same = ap length h.table in
     let mapped = length-map h.entries row_of in
     let within = rank_within row (held t) in
-    let r = c.enter.ensures.entered h.entries asked (record { size = s.size; labels = s.labels; fields = s.fields; nodes = s.nodes; first = s.first; spare = s.spare }) (omega arith) (c.count-count.ensures ∙ same ∙ sym long ∙ mapped) (omega (arith, ok.1)) in
+    let r = c.enter.ensures.entered h.entries asked (record { labels = s.labels; fields = s.fields; nodes = s.nodes; first = s.first; spare = s.spare }) (omega arith) (omega (arith, ok.1)) in
     let t = r.told in
     record { labels = r.labels; serves = r.serves; field_labels = r.field_labels; node_labels = r.node_labels; told = record { source = t.source; destination = t.destination; source_port = t.source_port; destination_port = t.destination_port; protocol = t.protocol; flags = t.flags; stores = t.stores } } in
     let none : (fs : List FilterRow) (asked : Asked) → Stands g.A.Told.shows g.B.Told.shows g.C.Told.shows g.D.Told.shows g.E.Told.shows g.F.Told.shows g.S.Told.shows c.args.self.now fs asked → refusal fs (Add row) ≡ None = λ fs asked h. ap (λ (gs : List FilterRow). refusal gs (Add row)) (sym h.table) ∙ ok.0 in
