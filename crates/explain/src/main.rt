@@ -5,8 +5,10 @@ mod questions;
 mod reading;
 mod wording;
 
+use fields::orders::FIELDS;
 use questions::{Line, Question};
 use reading::read_line;
+use std::fmt;
 use std::io::{BufRead, BufReader};
 use wording::{Outcome, explanation, unreadable};
 
@@ -15,7 +17,7 @@ fn main(rt: HostRuntime) -> anyhow::Result<()> {
 }
 
 // How the lines came out.
-#[derive(Clone, Copy)]
+#[derive(Clone, Copy, Default)]
 struct Tally {
     read: u64,
     taken: u64,
@@ -23,54 +25,54 @@ struct Tally {
     refused: u64,
 }
 
+impl Tally {
+    fn count(&mut self, outcome: Outcome) {
+        self.read = self.read.saturating_add(1);
+        match outcome {
+            Outcome::Taken => self.taken = self.taken.saturating_add(1),
+            Outcome::NotTaken => self.not_taken = self.not_taken.saturating_add(1),
+            Outcome::Refused => self.refused = self.refused.saturating_add(1),
+        }
+    }
+}
+
+impl fmt::Display for Tally {
+    fn fmt<W: fmt::Write>(&self, f: &mut fmt::Formatter<W>) -> fmt::Result {
+        write!(
+            f,
+            "{} lines read: {} taken, {} not taken, {} refused",
+            self.read, self.taken, self.not_taken, self.refused
+        )
+    }
+}
+
 fn explain_lines(rt: &HostRuntime) -> anyhow::Result<()> {
-    let mut tally = Tally {
-        read: 0,
-        taken: 0,
-        not_taken: 0,
-        refused: 0,
-    };
+    let mut tally = Tally::default();
     for line in BufReader::new(rt.alloc(), rt.stdin())?.split(rt.alloc(), b'\n') {
         let line = line?;
-        let outcome = explain_line(rt, read_line(line.as_slice()))?;
-        tally = counted(tally, outcome);
+        tally.count(explain_line(rt, read_line(line.as_slice()))?);
     }
-    let Tally {
-        read,
-        taken,
-        not_taken,
-        refused,
-    } = tally;
-    println!(rt; "{read} lines read: {taken} taken, {not_taken} not taken, {refused} refused")?;
+    println!(rt; "{tally}")?;
     Ok(())
 }
 
 fn explain_line(rt: &HostRuntime, line: Option<Line>) -> anyhow::Result<Outcome> {
-    match line {
-        None => {
-            let said = unreadable(rt.alloc())?;
-            let text = said.text;
-            println!(rt; "{text}")?;
-            Ok(said.outcome)
-        }
-        Some(Line::One(question)) => {
-            let said = explanation(rt.alloc(), question)?;
-            let text = said.text;
-            println!(rt; "{text}")?;
-            Ok(said.outcome)
-        }
-        Some(Line::Filter(questions)) => explain_filter(rt, &questions),
-    }
+    let said = match line {
+        None => unreadable(rt.alloc())?,
+        Some(Line::One(question)) => explanation(rt.alloc(), question)?,
+        Some(Line::Filter(questions)) => return explain_filter(rt, &questions),
+    };
+    println!(rt; "{}", said.text)?;
+    Ok(said.outcome)
 }
 
 // Field by field, and then the filter as a whole.
-fn explain_filter(rt: &HostRuntime, questions: &[Question]) -> anyhow::Result<Outcome> {
+fn explain_filter(rt: &HostRuntime, questions: &[Question; FIELDS]) -> anyhow::Result<Outcome> {
     let mut whole = Outcome::Taken;
-    for (i, question) in questions.iter().enumerate() {
+    for (field, question) in (1..=FIELDS).zip(questions) {
         let said = explanation(rt.alloc(), *question)?;
-        let text = said.text;
-        println!(rt; "field {}: {text}", i.saturating_add(1))?;
-        whole = joined(whole, said.outcome);
+        println!(rt; "field {field}: {}", said.text)?;
+        whole = whole.max(said.outcome);
     }
     let verdict = match whole {
         Outcome::Taken => "matches: every value takes its number",
@@ -79,24 +81,4 @@ fn explain_filter(rt: &HostRuntime, questions: &[Question]) -> anyhow::Result<Ou
     };
     println!(rt; "the filter {verdict}")?;
     Ok(whole)
-}
-
-// A filter is refused if a value is, and matches if every value takes its number.
-fn joined(whole: Outcome, field: Outcome) -> Outcome {
-    match (whole, field) {
-        (Outcome::Refused, _) | (_, Outcome::Refused) => Outcome::Refused,
-        (Outcome::Taken, Outcome::Taken) => Outcome::Taken,
-        _ => Outcome::NotTaken,
-    }
-}
-
-fn counted(tally: Tally, outcome: Outcome) -> Tally {
-    let mut tally = tally;
-    tally.read = tally.read.saturating_add(1);
-    match outcome {
-        Outcome::Taken => tally.taken = tally.taken.saturating_add(1),
-        Outcome::NotTaken => tally.not_taken = tally.not_taken.saturating_add(1),
-        Outcome::Refused => tally.refused = tally.refused.saturating_add(1),
-    }
-    tally
 }

@@ -9,19 +9,15 @@ use words::values::{read_flag_mask, read_prefix, read_protocol, read_range};
 pub fn read_line(line: &[u8]) -> Option<Line> {
     let (kind, rest) = cut(line, b' ')?;
     match kind {
-        b"order" => read_order(rest),
-        b"filter" => read_filter(rest),
-        _ => read_taking(kind, rest),
+        b"order" => Some(Line::One(Question::OfOrder(read_order(rest)?))),
+        b"filter" => Some(Line::Filter(read_filter(rest)?)),
+        _ => Some(Line::One(read_taking(kind, rest)?)),
     }
 }
 
-fn read_taking(kind: &[u8], rest: &[u8]) -> Option<Line> {
+// A value and a number.
+fn read_taking(kind: &[u8], rest: &[u8]) -> Option<Question> {
     let (value, number) = cut(rest, b' ')?;
-    let question = of_kind(kind, value, number)?;
-    Some(Line::One(question))
-}
-
-fn of_kind(kind: &[u8], value: &[u8], number: &[u8]) -> Option<Question> {
     match kind {
         b"prefix" => Some(Question::OfPrefix(read_prefix(value)?, read_address(number)?)),
         b"range" => Some(Question::OfRange(read_range(value)?, read_u16(number)?)),
@@ -31,37 +27,32 @@ fn of_kind(kind: &[u8], value: &[u8], number: &[u8]) -> Option<Question> {
     }
 }
 
-fn read_order(text: &[u8]) -> Option<Line> {
+// Six numbers.
+fn read_order(text: &[u8]) -> Option<[u8; FIELDS]> {
+    let mut words = text.split(|byte| *byte == b' ');
     let mut fields = [0; FIELDS];
-    let mut rest = text;
-    for i in 0..FIELDS - 1 {
-        let (word, behind) = cut(rest, b' ')?;
-        fields[i] = read_u8(word)?;
-        rest = behind;
+    for field in &mut fields {
+        *field = read_u8(words.next()?)?;
     }
-    fields[FIELDS - 1] = read_u8(rest)?;
-    Some(Line::One(Question::OfOrder(fields)))
+    words.next().is_none().then_some(fields)
 }
 
 // Six values, and then six numbers.
-fn read_filter(text: &[u8]) -> Option<Line> {
-    let (source, rest) = cut(text, b' ')?;
-    let (destination, rest) = cut(rest, b' ')?;
-    let (source_port, rest) = cut(rest, b' ')?;
-    let (destination_port, rest) = cut(rest, b' ')?;
-    let (protocol, rest) = cut(rest, b' ')?;
-    let (flags, numbers) = cut(rest, b' ')?;
-    let (first, numbers) = cut(numbers, b' ')?;
-    let (second, numbers) = cut(numbers, b' ')?;
-    let (third, numbers) = cut(numbers, b' ')?;
-    let (fourth, numbers) = cut(numbers, b' ')?;
-    let (fifth, sixth) = cut(numbers, b' ')?;
-    Some(Line::Filter([
-        of_kind(b"prefix", source, first)?,
-        of_kind(b"prefix", destination, second)?,
-        of_kind(b"range", source_port, third)?,
-        of_kind(b"range", destination_port, fourth)?,
-        of_kind(b"protocol", protocol, fifth)?,
-        of_kind(b"flags", flags, sixth)?,
-    ]))
+fn read_filter(text: &[u8]) -> Option<[Question; FIELDS]> {
+    let mut words = text.split(|byte| *byte == b' ');
+    let source = read_prefix(words.next()?)?;
+    let destination = read_prefix(words.next()?)?;
+    let source_port = read_range(words.next()?)?;
+    let destination_port = read_range(words.next()?)?;
+    let protocol = read_protocol(words.next()?)?;
+    let flags = read_flag_mask(words.next()?)?;
+    let questions = [
+        Question::OfPrefix(source, read_address(words.next()?)?),
+        Question::OfPrefix(destination, read_address(words.next()?)?),
+        Question::OfRange(source_port, read_u16(words.next()?)?),
+        Question::OfRange(destination_port, read_u16(words.next()?)?),
+        Question::OfProtocol(protocol, read_u8(words.next()?)?),
+        Question::OfFlags(flags, read_flags(words.next()?)?),
+    ];
+    words.next().is_none().then_some(questions)
 }

@@ -10,7 +10,8 @@ use reasons::sides::Side;
 use reasons::why;
 use std::alloc::{AllocError, Global};
 
-#[derive(Clone, Copy)]
+// From the best to the worst: a filter comes out as the worst of its values.
+#[derive(Clone, Copy, PartialEq, Eq, PartialOrd, Ord)]
 pub enum Outcome {
     Taken,
     NotTaken,
@@ -39,6 +40,7 @@ pub fn unreadable(heap: Global) -> Result<Said, AllocError> {
     of_fault(heap, Fault::Line)
 }
 
+// A sentence names the parts of its row again, so that a `Display` of rows would stand for one placeholder in each.
 fn of_prefix(heap: Global, row: PrefixRow, number: u32) -> Result<Said, AllocError> {
     let address = row.address;
     let length = row.length;
@@ -115,12 +117,14 @@ fn of_order(heap: Global, fields: [u8; FIELDS]) -> Result<Said, AllocError> {
 }
 
 fn of_fault(heap: Global, fault: Fault) -> Result<Said, AllocError> {
-    let number = fault.number();
-    let detail = fault.detail();
-    let reason = reason(fault);
     Ok(Said {
         outcome: Outcome::Refused,
-        text: format!(in heap; "refused with {number}, detail {detail}: {reason}")?,
+        text: format!(in heap;
+            "refused with {}, detail {}: {}",
+            fault.number(),
+            fault.detail(),
+            reason(fault)
+        )?,
     })
 }
 

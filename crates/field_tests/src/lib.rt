@@ -26,10 +26,7 @@ mod tests {
 
     // 0 where there is no fault, else its number and detail
     fn told(fault: Option<Fault>) -> (u8, u32) {
-        match fault {
-            None => (0, 0),
-            Some(fault) => (fault.number(), fault.detail()),
-        }
+        fault.map_or((0, 0), |fault| (fault.number(), fault.detail()))
     }
 
     fn prefix_fault(address: u32, length: u8) -> Option<Fault> {
@@ -65,10 +62,10 @@ mod tests {
             (65535, 65535, 65534, false),
         ];
         for (low, high, number, takes) in rows {
-            match PortRange::form(RangeRow { low, high }) {
-                Ok(range) => assert_eq!(rt; range.takes(number), takes),
-                Err(_) => return Err(Fail::new("not formed")),
-            }
+            assert_eq!(rt;
+                PortRange::form(RangeRow { low, high })?.takes(number),
+                takes
+            );
         }
         assert_eq!(rt;
             told(PortRange::form(RangeRow { low: 6, high: 5 }).err()),
@@ -87,10 +84,10 @@ mod tests {
             (0x12, 0x02, 0x12, false),
         ];
         for (mask, wanted, number, takes) in rows {
-            match FlagMask::form(FlagRow { mask, wanted }) {
-                Ok(flags) => assert_eq!(rt; flags.takes(number), takes),
-                Err(_) => return Err(Fail::new("not formed")),
-            }
+            assert_eq!(rt;
+                FlagMask::form(FlagRow { mask, wanted })?.takes(number),
+                takes
+            );
         }
         assert_eq!(rt;
             told(FlagMask::form(FlagRow { mask: 1, wanted: 2 }).err()),

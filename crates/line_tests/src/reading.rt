@@ -7,10 +7,7 @@ use std::test::Fail;
 
 // The number that a line is refused with, 0 if it is read.
 fn refused(line: &str) -> u8 {
-    match read_call(line.as_bytes()) {
-        Ok(_) => 0,
-        Err(fault) => fault.number(),
-    }
+    read_call(line.as_bytes()).map_or_else(|fault| fault.number(), |_| 0)
 }
 
 #[test]
@@ -140,8 +137,8 @@ fn long_lines_and_bytes(rt: HostRuntime) {
     let mut line = [b'0'; 121];
     line[0] = b'R';
     line[1] = b' ';
-    assert_eq!(rt; read_call(&line[0..120]).is_err(), true);
-    assert_eq!(rt; read_call(&line[0..121]).is_err(), true);
-    assert_eq!(rt; read_call(&line[0..3]).is_ok(), true);
-    assert_eq!(rt; read_call(b"R \xFF").is_err(), true);
+    assert!(rt; read_call(&line[0..120]).is_err());
+    assert!(rt; read_call(&line[0..121]).is_err());
+    assert!(rt; read_call(&line[0..3]).is_ok());
+    assert!(rt; read_call(b"R \xFF").is_err());
 }

@@ -1,11 +1,10 @@
 -- A command: a letter, a space, and the spelling of its arguments.
-use Rattle.std.proofs.Common.{◌≡◌, ℕ, List, [], ◌∷◌, length, get_or, Some, None, Option, sym, refl, ap, ◌∙◌, subst, arith}
+use Rattle.std.proofs.Common.{◌≡◌, ℕ, List, [], ◌∷◌, length, Some, None, Option, sym, refl, ap, ◌∙◌, subst, arith}
 use Rattle.filters.specs.declared.calls.Call.{Call}
 use Rattle.filters.specs.declared.calls.Call.TheVariants.{Add, Remove, Inspect, Search}
 use Rattle.words.specs.Texts.{joined}
 use Rattle.words.specs.Reading.{Reads, Free}
 use Rattle.words.proofs.Joins.{one_cut}
-use Rattle.words.proofs.RowWords.{one_byte}
 use Rattle.lines.specs.Calls.{spaced, letter, arguments, call_text, CallFits}
 
 abbrev CallReads : List ℕ → Option Call → Type 0
@@ -81,22 +80,9 @@ unspaced (Remove id) = (λ e. omega arith, tt)
 unspaced (Inspect id place) = (λ e. omega arith, tt)
 unspaced (Search h r room) = (λ e. omega arith, tt)
 
-no_letter : (v : Call) (b : ℕ) → (b ≡ 65 → ⊥) → (b ≡ 82 → ⊥) → (b ≡ 76 → ⊥) → (b ≡ 70 → ⊥) → b ≡ letter v → ⊥
-no_letter (Add f) b n₀ n₁ n₂ n₃ e = n₀ e
-no_letter (Remove id) b n₀ n₁ n₂ n₃ e = n₁ e
-no_letter (Inspect id place) b n₀ n₁ n₂ n₃ e = n₂ e
-no_letter (Search h r room) b n₀ n₁ n₂ n₃ e = n₃ e
-
 module _ (line command rest : List ℕ) (cut : (line ≡ joined command 32 rest) × Free 32 command) where
   front : (v : Call) → line ≡ call_text v → command ≡ letter v ∷ []
   front v e = (one_cut 32 command rest (letter v ∷ []) (spaced (arguments v)) cut.1 (unspaced v) (sym cut.0 ∙ e ∙ begins v)).0
 
   pub long_command : (length command ≡ 1 → ⊥) → CallReads line None
   long_command ne = none_read line (λ v e. ne (ap length (front v e)))
-
-  pub other_command : (get_or command 0 0 ≡ 65 → ⊥) → (get_or command 0 0 ≡ 82 → ⊥) → (get_or command 0 0 ≡ 76 → ⊥) → (get_or command 0 0 ≡ 70 → ⊥) → CallReads line None
-  other_command n₀ n₁ n₂ n₃ = none_read line (λ v e. no_letter v (get_or command 0 0) n₀ n₁ n₂ n₃ (ap (λ (l : List ℕ). get_or l 0 0) (front v e)))
-
-  pub command_read : (b : ℕ) (r : Option Call) → length command ≡ 1 → get_or command 0 0 ≡ b → CallReads (b ∷ 32 ∷ rest) r → CallReads line r
-  command_read b r l e h =
-      subst (λ (x : List ℕ). CallReads x r) (sym (cut.0 ∙ ap (λ (x : List ℕ). joined x 32 rest) (one_byte command b l e))) h

@@ -9,12 +9,6 @@ pub as_text : {X E : Type 0} (r : Result X E) (new old bytes text : List ℕ) �
 as_text (Ok x) new old bytes text e h = h ∙ ap (λ (l : List ℕ). old ++ l) e
 as_text (Err y) new old bytes text e h = tt
 
-pub one : (sign a : ℕ) → sign ∷ 32 ∷ decimal a ≡ sign ∷ decimals (a ∷ [])
-one sign a = ap (λ (l : List ℕ). sign ∷ 32 ∷ l) (sym (append-nil (decimal a)))
-
-pub two : (sign a b : ℕ) → sign ∷ 32 ∷ (decimal a ++ 32 ∷ decimal b) ≡ sign ∷ decimals (a ∷ b ∷ [])
-two sign a b = ap (λ (l : List ℕ). sign ∷ 32 ∷ (decimal a ++ 32 ∷ l)) (sym (append-nil (decimal b)))
-
 pub zeros : 61 ∷ 32 ∷ 48 ∷ 32 ∷ 48 ∷ [] ≡ 61 ∷ decimals (0 ∷ 0 ∷ [])
 zeros = sym (ap (λ (l : List ℕ). 61 ∷ 32 ∷ (l ++ 32 ∷ (l ++ []))) (decimal_digit 0 (omega arith)))
 
@@ -31,11 +25,3 @@ listed_turn new old base xs i l e f =
     ∙ ap (λ (x : List ℕ). base ++ (decimals (take i xs) ++ 32 ∷ x)) (sym (append-nil (decimal n)))
     ∙ ap (λ (x : List ℕ). base ++ x) (sym (decimals_append (take i xs) (n ∷ [])))
     ∙ ap (λ (x : List ℕ). base ++ decimals x) (sym (take_more xs i 0 l))
-
--- the best, the pairs and the list
-pub found : {X E : Type 0} (r : Result X E) (new late early old best listed : List ℕ) (pairs : ℕ) → early ≡ old ++ 61 ∷ decimals best → late ≡ early ++ 32 ∷ decimal pairs → IfOk r (λ _. new ≡ late ++ decimals listed) → IfOk r (λ _. new ≡ old ++ 61 ∷ decimals (best ++ pairs ∷ listed))
-found (Ok x) new late early old best listed pairs e f h =
-    h ∙ ap (λ (l : List ℕ). l ++ decimals listed) f ∙ append_assoc early (32 ∷ decimal pairs) (decimals listed)
-    ∙ ap (λ (l : List ℕ). l ++ decimals (pairs ∷ listed)) e ∙ append_assoc old (61 ∷ decimals best) (decimals (pairs ∷ listed))
-    ∙ ap (λ (l : List ℕ). old ++ 61 ∷ l) (sym (decimals_append best (pairs ∷ listed)))
-found (Err y) new late early old best listed pairs e f h = tt

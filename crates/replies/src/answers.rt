@@ -34,9 +34,7 @@ fn write_accepted(out: &mut String, answer: Answer, listed: &[u16]) -> Result<()
 fn write_refusal(out: &mut String, fault: Fault) -> Result<(), AllocError>
     ensures { OnOk result (string_bytes out.new ≡ string_bytes out.old ++ answer_text (Err fault) []) }
 {
-    let number = fault.number();
-    let detail = fault.detail();
-    write!(out, "! {number} {detail}")
+    write!(out, "! {fault}")
 }
 
 fn write_found(
@@ -56,11 +54,7 @@ fn write_best(out: &mut String, best: Option<Best>) -> Result<(), AllocError>
     ensures { OnOk result (string_bytes out.new ≡ string_bytes out.old ++ 61 ∷ decimals (best_numbers best)) }
 {
     match best {
-        Some(best) => {
-            let identifier = best.identifier;
-            let flow = best.flow;
-            write!(out, "= {identifier} {flow}")
-        }
+        Some(best) => write!(out, "= {} {}", best.identifier, best.flow),
         None => write!(out, "= 0 0"),
     }
 }
@@ -77,10 +71,5 @@ fn write_listed(out: &mut String, listed: &[u16]) -> Result<(), AllocError>
 fn first(list: &[u16], count: u8) -> &[u16]
     ensures { result.now ≡ take count list.now }
 {
-    let count = count as usize;
-    if count < list.len() {
-        &list[0..count]
-    } else {
-        list
-    }
+    list.get(..count as usize).unwrap_or(list)
 }

@@ -74,12 +74,9 @@ impl Spelled for Class {
     ghost fits = { λ _. Unit {0} };
 
     fn read(bytes: &[u8]) -> Option<Class> {
-        if bytes.len() != 1 {
-            return None;
-        }
-        match bytes[0] as char {
-            'e' => Some(Class::Exclusive),
-            'n' => Some(Class::NonExclusive),
+        match bytes {
+            b"e" => Some(Class::Exclusive),
+            b"n" => Some(Class::NonExclusive),
             _ => None,
         }
     }

@@ -7,10 +7,6 @@ ghost use Rattle.words.specs.Reading.{Free};
 pub fn cut(bytes: &[u8], separator: u8) -> Option<(&[u8], &[u8])>
     ensures { MatchOption result (Free separator bytes.now) (λ p. (bytes.now ≡ joined p.0.now separator p.1.now) × Free separator p.0.now) }
 {
-    for (i, byte) in bytes.iter().enumerate() {
-        if *byte == separator {
-            return Some((&bytes[0..i], &bytes[i + 1..]));
-        }
-    }
-    None
+    let place = bytes.iter().position(|byte| *byte == separator)?;
+    Some((&bytes[..place], &bytes[place + 1..]))
 }

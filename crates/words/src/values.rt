@@ -31,11 +31,10 @@ pub fn read_range(word: &[u8]) -> Option<RangeRow>
 pub fn read_protocol(word: &[u8]) -> Option<ProtocolRow>
     ensures { Reads protocol_text ProtocolFits word.now result }
 {
-    if word.len() == 1 && word[0] == b'*' {
-        return Some(ProtocolRow::Any);
+    match word {
+        b"*" => Some(ProtocolRow::Any),
+        _ => Some(ProtocolRow::Only(read_u8(word)?)),
     }
-    let number = read_u8(word)?;
-    Some(ProtocolRow::Only(number))
 }
 
 pub fn read_flag_mask(word: &[u8]) -> Option<FlagRow>

@@ -1,6 +1,5 @@
-use Rattle.std.proofs.Common.{◌≡◌, ℕ, ◌<◌, Bool, false, ltb, List, length, take, sym, refl, ap, ◌∙◌, subst, arith, rules}
+use Rattle.std.proofs.Common.{◌≡◌, ℕ, ◌<◌, Bool, List, length, take, sym, ap, ◌∙◌, subst, arith, rules}
 use Rattle.std.proofs.lemmas.List.{take_all}
-use Rattle.std.proofs.lemmas.Bool.{le-ltb}
 use Rattle.parts.specs.Marks.{marked, over_start, ListsMarked}
 use Rattle.parts.proofs.Marked.{turn_set, turn_kept, marked_exactly, take_over}
 use Rattle.parts.proofs.marks.write_marked.Goals as goal
@@ -23,17 +22,11 @@ loop-label-preserved c =
           (omega (arith, w.count-is), w.count-is ∙ inv.1 ∙ ap length (sym t), w.list-is ∙ inv.2 ∙ ap (λ (xs : List ℕ). over_start xs c.args.list.now) (sym t))
     ]
 
-pub returns : goal.returns
-returns c =
+pub returns-clause-exactly : goal.returns-clause-exactly
+returns-clause-exactly c =
     let ms = c.args.marks.now in
     let old = c.args.list.now in
     let all : take c.loop-label.label ms ≡ ms = take_all c.loop-label.label ms (search rules) in
     let count : c.loop-label.count ≡ length (marked ms) = c.loop-label.invariant.1 ∙ ap (λ (xs : List Bool). length (marked xs)) all in
     let list : c.loop-label.list ≡ over_start (marked ms) old = c.loop-label.invariant.2 ∙ ap (λ (xs : List Bool). over_start (marked xs) old) all in
-    let long : ltb (length old) 96 ≡ false = le-ltb (length old) 96 (search rules) in
-    record {
-      result = rw (long, count) refl;
-      written = rw long list;
-      exactly = subst (ListsMarked ms) (sym (ap (λ (n : ℕ). take n c.loop-label.list) count ∙ ap (take (length (marked ms))) list ∙ take_over (marked ms) old)) (marked_exactly ms);
-      few = search rules;
-    }
+    subst (ListsMarked ms) (sym (ap (λ (n : ℕ). take n c.loop-label.list) count ∙ ap (take (length (marked ms))) list ∙ take_over (marked ms) old)) (marked_exactly ms)

@@ -1,14 +1,8 @@
 use Rattle.std.proofs.Common.{◌∷◌, Option, sym, ap, ◌∙◌}
 use Rattle.filters.specs.declared.calls.Best.{Best}
 use Rattle.replies.specs.Answers.{decimals, best_numbers}
-use Rattle.replies.proofs.Texts.{as_text, two, zeros}
+use Rattle.replies.proofs.Texts.{as_text, zeros}
 use Rattle.replies.proofs.answers.write_best.Goals as goal
-
-pub returns-in-Some : goal.returns-in-Some
-returns-in-Some c =
-    as_text c.write.result _ _ _ _
-    (two 61 c.in-Some.best.identifier c.in-Some.best.flow ∙ ap (λ (o : Option Best). 61 ∷ decimals (best_numbers o)) (sym c.in-Some.is))
-    c.write.ensures.bytes
 
 pub returns-in-None : goal.returns-in-None
 returns-in-None c =

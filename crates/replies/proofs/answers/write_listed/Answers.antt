@@ -1,6 +1,4 @@
-use Rattle.std.proofs.Common.{ℕ, List, ◌++◌, string_bytes, ap, ◌∙◌}
-use Rattle.std.proofs.lemmas.List.{take_all}
-use Rattle.replies.specs.Answers.{decimals}
+use Rattle.std.proofs.Common.{string_bytes}
 use Rattle.replies.proofs.Texts.{listed_turn}
 use Rattle.replies.proofs.answers.write_listed.Goals as goal
 
@@ -8,8 +6,3 @@ pub loop-identifier-preserved : goal.loop-identifier-preserved
 loop-identifier-preserved c =
     listed_turn (string_bytes c.write.new.self) (string_bytes c.loop-identifier.out) (string_bytes c.args.out.now) c.args.listed.now c.loop-identifier.identifier-index
     c.loop-identifier-test.true c.loop-identifier.invariant c.in_ok-write.ensures.bytes
-
-pub returns : goal.returns
-returns c =
-    c.loop-identifier.invariant
-    ∙ ap (λ (l : List ℕ). string_bytes c.args.out.now ++ decimals l) (take_all c.loop-identifier.identifier-index c.args.listed.now c.loop-identifier-test.false)

@@ -1,28 +1,22 @@
-use Rattle.std.proofs.Common.{◌≡◌, ℕ, ◌+◌, ◌-◌, List, ◌∷◌, ◌++◌, take, drop, sym, ap, ◌∙◌, subst}
-use native.Mathlib.Nat.{sub-zero}
-use Rattle.std.proofs.ByRecursion.{All-more}
-use Rattle.std.proofs.lemmas.List.{take_all, take-append-drop, drop_more, take_rest}
+use Rattle.std.proofs.Common.{◌≡◌, ℕ, ◌+◌, ◌<◌, List, ◌∷◌, ◌++◌, length, take, drop, Option, sym, ap, ◌∙◌, subst, arith, rules, tests, length-take-le}
+use Rattle.std.specs.List.{AllWithin, HoldsAt}
+use Rattle.std.specs.Option.{MatchOption}
+use Rattle.std.proofs.ByRecursion.{All-from_get_or}
+use Rattle.std.proofs.lemmas.Iterator.{IsFirst-from_position}
+use Rattle.std.proofs.lemmas.Iterator.{YieldsList-from_slice}
+use Rattle.std.proofs.lemmas.List.{take-append-drop, drop_more, take_rest, get_or-take}
 use Rattle.words.specs.Texts.{joined}
-use Rattle.words.specs.Reading.{Free}
 use Rattle.words.proofs.cuts.cut.Goals as goal
 
-pub loop-i-init : goal.loop-i-init
-loop-i-init c = tt
-
-pub returns-then-byte-separator : goal.returns-then-byte-separator
-returns-then-byte-separator c =
-    let xs = c.args.bytes.now in
-    let i = c.loop-i.i in
-    let s = c.args.separator in (
-      sym (take-append-drop i xs) ∙ ap (λ (l : List ℕ). take i xs ++ l) (drop_more xs i 0 c.loop-i-test.true)
-          ∙ ap (λ (b : ℕ). take i xs ++ b ∷ drop (i + 1) xs) c.if-byte-separator.true
-          ∙ ap (λ (n : ℕ). joined (take n xs) s (drop (i + 1) xs)) (sym (sub-zero i))
-          ∙ ap (joined (take (i - 0) xs) s) (sym (take_rest xs (i + 1))),
-      subst (λ (n : ℕ). Free s (take n xs)) (sym (sub-zero i)) c.loop-i.invariant,
-    )
-
-pub loop-i-preserved : goal.loop-i-preserved
-loop-i-preserved c = All-more (λ b. b ≡ c.args.separator → ⊥) c.args.bytes.now c.loop-i.i 0 c.loop-i-test.true c.loop-i.invariant c.if-byte-separator.false
-
 pub returns : goal.returns
-returns c = subst (Free c.args.separator) (take_all c.loop-i.i c.args.bytes.now c.loop-i-test.false) c.loop-i.invariant
+returns c =
+    let xs = c.args.bytes.now in
+    let s = c.args.separator in
+    let p = c.in_ok-place.place in
+    let found = IsFirst-from_position _ _ _ (λ (b : ℕ). b ≡ s) (λ (b : ℕ). b ≡ s → ⊥) c.position.ensures.ran (YieldsList-from_slice xs cc) (λ x q k. search (rules, tests)) (λ x q k. search (rules, tests)) in
+    let first : (p < length xs) × HoldsAt (λ (b : ℕ). b ≡ s) xs p × AllWithin (λ (b : ℕ). b ≡ s → ⊥) xs 0 p = subst (λ (r : Option ℕ). MatchOption r (AllWithin (λ (b : ℕ). b ≡ s → ⊥) xs 0 (length xs)) (λ i. (i < length xs) × HoldsAt (λ (b : ℕ). b ≡ s) xs i × AllWithin (λ (b : ℕ). b ≡ s → ⊥) xs 0 i)) c.in_ok-place.was found in (
+      sym (take-append-drop p xs) ∙ ap (λ (l : List ℕ). take p xs ++ l) (drop_more xs p 0 first.0)
+          ∙ ap (λ (b : ℕ). take p xs ++ b ∷ drop (p + 1) xs) (first.1 0)
+          ∙ ap (joined (take p xs) s) (sym (take_rest xs (p + 1))),
+      All-from_get_or (λ (b : ℕ). b ≡ s → ⊥) (take p xs) 0 (λ i l. let few = length-take-le p xs (omega (arith, first.0)) in subst (λ (b : ℕ). b ≡ s → ⊥) (sym (get_or-take p xs i 0 (omega arith))) (first.2 i 0 (omega arith) (omega arith))),
+    )

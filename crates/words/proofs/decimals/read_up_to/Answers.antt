@@ -1,17 +1,9 @@
-use Rattle.std.proofs.Common.{◌≡◌, ℕ, ◌^◌, ◌<◌, ◌≤◌, take, Some, decimal, sym, refl, ap, ◌∙◌, subst, arith}
+use Rattle.std.proofs.Common.{◌≡◌, ℕ, ◌^◌, ◌<◌, ◌≤◌, take, Some, decimal, sym, ap, ◌∙◌, subst, arith}
 use Rattle.std.specs.Str.Parse.{digits_value, AllDigits}
 use Rattle.std.proofs.lemmas.List.{take_all}
 use Rattle.words.specs.Reading.{Reads}
-use Rattle.words.proofs.DecimalWords.{read_decimal, none_read, stuck_read, digits_turn}
+use Rattle.words.proofs.DecimalWords.{read_decimal, stuck_read, digits_turn}
 use Rattle.words.proofs.decimals.read_up_to.Goals as goal
-
-pub returns-then-not-begins_decimal : goal.returns-then-not-begins_decimal
-returns-then-not-begins_decimal c =
-    let small : c.args.largest < 2 ^ 16 = omega arith in
-    none_read c.args.largest small c.args.word.now (λ n f e. c.if-not-begins_decimal.ensures n (omega arith) e)
-
-pub loop-byte-init : goal.loop-byte-init
-loop-byte-init c = (tt, refl, omega arith)
 
 pub returns-in_err-number : goal.returns-in_err-number
 returns-in_err-number c =

@@ -1,4 +1,4 @@
-use Rattle.std.proofs.Common.{◌≡◌, ℕ, ◌^◌, ◌<◌, take, sym, refl, ap, ◌∙◌, subst, arith}
+use Rattle.std.proofs.Common.{◌≡◌, ℕ, ◌^◌, ◌<◌, take, sym, ap, ◌∙◌, subst, arith}
 use Rattle.std.proofs.lemmas.List.{take_all}
 use Rattle.words.specs.Texts.{hex}
 use Rattle.words.proofs.HexWords.{unequal_read, stuck_read, read_hex, hex_turn, hex_room}
@@ -6,9 +6,6 @@ use Rattle.words.proofs.hexadecimals.read_hex.Goals as goal
 
 pub returns-then-word-digits : goal.returns-then-word-digits
 returns-then-word-digits c = unequal_read c.args.digits c.args.word.now c.if-word-digits.true
-
-pub loop-byte-init : goal.loop-byte-init
-loop-byte-init c = (refl, omega arith)
 
 pub overflow_mul-number : goal.overflow_mul-number
 overflow_mul-number c =

@@ -1,10 +1,6 @@
-use Rattle.words.proofs.Joins.{uncut_read, no_left, no_right, both_read}
+use Rattle.words.proofs.Joins.{no_left, no_right, both_read}
 use Rattle.words.proofs.RowWords.{prefix-join}
 use Rattle.words.proofs.values.read_prefix.Goals as goal
-
-pub returns-in_err-front : goal.returns-in_err-front
-unfolding prefix-join
-returns-in_err-front c = rw c.from_residual.ensures (uncut_read prefix-join c.args.word.now c.in_err-front.ensures)
 
 pub returns-in_err-address : goal.returns-in_err-address
 unfolding prefix-join
