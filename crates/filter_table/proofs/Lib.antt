@@ -1,4 +1,3 @@
 pub mod Places
-pub mod Shifting
 pub mod Held
 pub mod Listing

@@ -1,5 +1,4 @@
 #![tactic(auto)]
 
 pub mod lists;
-pub mod shifts;
 pub mod table;
