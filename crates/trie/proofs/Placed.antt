@@ -1,15 +1,15 @@
 -- What set, clear and match answer, from the rows.
-use Rattle.std.proofs.Common.{◌≡◌, ℕ, ◌+◌, ◌%◌, ◌^◌, ◌<◌, ◌≤◌, Bool, true, false, cond, ◌||◌, ◌⊎◌, eqb, ltb, List, [], ◌∷◌, map, length, get_or, replicate, Some, None, Ok, Err, Option, Result, sym, refl, ap, ◌∙◌, inl, inr, ⊎_elim, arith}
+use Rattle.std.proofs.Common.{◌≡◌, ℕ, ◌+◌, ◌%◌, ◌^◌, ◌<◌, Bool, true, false, cond, ◌||◌, eqb, ltb, List, [], ◌∷◌, map, length, get_or, replicate, Some, None, Ok, Err, Option, Result, sym, refl, ap, ◌∙◌, ⊎_elim, arith}
 use Rattle.std.proofs.lemmas.List.{length-map, get_or-map, get_or-replicate, ext_get_or}
-use Rattle.std.proofs.lemmas.Bool.{ltb-false, ltb-true, eq-eqb, eqb-true, both_ways}
+use Rattle.std.proofs.lemmas.Bool.{ltb-false, eq-eqb, eqb-true, both_ways}
 use Rattle.fields.specs.declared.faults.Fault.{Fault}
 use Rattle.fields.specs.declared.faults.Fault.TheVariants.{Label, Full}
 use Rattle.fields.specs.Faults.{when, first_fault, answer}
 use Rattle.fields.specs.declared.prefixes.Prefix.{Prefix}
 use Rattle.fields.specs.Prefixes.{same_prefix, prefix_takes}
 use Rattle.fields.proofs.Values.{prefix_decides}
-use Rattle.parts.specs.Meaning.{find, full, label_fault, elsewhere, set_fault, taken}
-use Rattle.parts.specs.Checks.{set_refusal, taken_from}
+use Rattle.parts.specs.Meaning.{find, full, label_fault, elsewhere, set_fault}
+use Rattle.parts.specs.Checks.{set_refusal}
 use Rattle.parts.specs.Marks.{hit}
 use Rattle.trie.specs.Strings.{code, codes}
 use Rattle.trie.specs.Trees.{is, hits}
@@ -39,30 +39,11 @@ nothing_wrong false f g (Some r) found e = absurd (let z : ◌≡◌ {A = ℕ} 0
 nothing_wrong false f g None (Some l) e = absurd (let z : ◌≡◌ {A = ℕ} 0 1 = cc in omega arith)
 nothing_wrong false f g None None e = (refl, refl, refl)
 
-taken_value : (b : Bool) (l : ℕ) (held : Option Prefix) (v : Prefix) → Ok v ≡ cond b (Err (Label l)) (taken l held) → (b ≡ false) × (held ≡ Some v)
-taken_value true l held v e = absurd (let z : ◌≡◌ {A = ℕ} 0 1 = cc in omega arith)
-taken_value false l None v e = absurd (let z : ◌≡◌ {A = ℕ} 0 1 = cc in omega arith)
-taken_value false l (Some r) v e = (refl, ap Some (let q : r ≡ v = cc in q))
-
-not_taken : (b : Bool) (l : ℕ) (o : Option Prefix) (e : Fault) → Err e ≡ cond b (Err (Label l)) (taken l o) → (b ≡ true) ⊎ (o ≡ None)
-not_taken true l o e h = inl refl
-not_taken false l None e h = inr refl
-not_taken false l (Some v) e h = absurd (let z : ◌≡◌ {A = ℕ} 0 1 = cc in omega arith)
-
 pub settable : (l : ℕ) (held read : Option Prefix) (found : Option ℕ) → read ≡ held → ◌≡◌ {A = Result (Unit {0}) Fault} (Ok tt) (answer (set_refusal l [] read found) tt) → (l < 96) × (held ≡ None) × (found ≡ None) × (set_refusal l [] held found ≡ None)
 settable l held read found same e =
     let f = unfaulted {A = Unit {0}} (set_refusal l [] held found) tt tt (e ∙ ap (λ (o : Option Prefix). answer (set_refusal l [] o found) tt) same) in
     let r = nothing_wrong (ltb 95 l) (Label l) (Full l) held found f in
     (omega (arith, ltb-false 95 l r.0), r.1, r.2, f)
-
-pub cleared_value : (l : ℕ) (held read : Option Prefix) (v : Prefix) → read ≡ held → Ok v ≡ taken_from l read → (ltb 95 l ≡ false) × (held ≡ Some v)
-cleared_value l held read v same e = taken_value (ltb 95 l) l held v (e ∙ ap (taken_from l) same)
-
-pub not_cleared : (l : ℕ) (held read : Option Prefix) (e : Fault) → read ≡ held → Err e ≡ taken_from l read → (96 ≤ l) ⊎ (held ≡ None)
-not_cleared l held read e same h = ⊎_elim
-    (λ (past : ltb 95 l ≡ true). inl (omega (arith, ltb-true 95 l past)))
-    (λ (none : read ≡ None). inr (sym same ∙ none))
-    (not_taken (ltb 95 l) l read e h)
 
 -- the label at the end of the walk is where the value is held
 module _ (places : List (Option Prefix)) (v : Prefix) (o : Option ℕ) (tells : (l : ℕ) → is o l ≡ eqb (codes places l) (code (Some v))) where

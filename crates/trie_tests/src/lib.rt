@@ -10,7 +10,6 @@ mod tests {
     use fields::faults::Fault;
     use fields::kinds::Kind;
     use fields::prefixes::{Prefix, PrefixRow};
-    use parts::marks::PLACES;
     use std::alloc::Global;
     use std::process::Abort;
     use std::test::Fail;
@@ -64,7 +63,7 @@ mod tests {
         let mut rows = [PrefixRow {
             address: 0,
             length: 0,
-        }; PLACES];
+        }; 96];
         alike(&rt, rt.alloc(), RowTable::form(&mut rows)?)
     }
 }

@@ -5,12 +5,8 @@ use Rattle.fields.specs.Faults.{answer, unless}
 use Rattle.parts.specs.Meaning.{Meaning, set_fault, put}
 use Rattle.parts.specs.Checks.{set_refusal}
 use Rattle.trie.specs.Shown.{Shown}
-use Rattle.trie.proofs.Walks.{along_value}
-use Rattle.trie.proofs.Placed.{equal, no_labels, refused, settable, same_refusal, new_from}
+use Rattle.trie.proofs.Placed.{equal, no_labels, refused, settable, same_refusal}
 use Rattle.trie.proofs.tries.TrieToldPrefix.set.Goals as goal
-
-pub holder-requires : goal.holder-requires
-holder-requires c = along_value c.args.self.now.tree.tables c.args.value c.row-row.result c.walk-path.result.items c.as_slice-path.result.now c.row-row.ensures c.as_slice-path.ensures.value c.walk-path.ensures
 
 pub returns-in_err-check_set : goal.returns-in_err-check_set
 returns-in_err-check_set c =
@@ -27,19 +23,6 @@ returns-in_err-check_set c =
       held = λ m s. subst (λ (f : Option Fault). Shown places c.args.self.now.asked (unless f m (put m p (Some v)))) (sym (fault m s)) s;
       kept = λ _. refl;
       asked = λ l h. h;
-    }
-
-pub put-requires : goal.put-requires
-put-requires c =
-    let places = c.args.self.now.tree.tables.places in
-    let p = c.args.place in
-    let found = c.holder.result in
-    let ok = settable p (get_or places p None) c.held.result found c.held.ensures (sym c.in_ok-check_set.was ∙ c.check_set.ensures) in
-    record {
-      within = ok.0;
-      walked = along_value c.args.self.now.tree.tables c.args.value c.row-row.result c.walk-path.result.items c.as_slice-path.result.now c.row-row.ensures c.as_slice-path.ensures.value c.walk-path.ensures;
-      vacant = ok.1;
-      new = new_from places c.args.value found c.holder.ensures ok.2;
     }
 
 pub returns : goal.returns
