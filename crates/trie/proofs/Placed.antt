@@ -1,4 +1,4 @@
--- What set, clear and match answer, from the rows.
+-- What set and match answer, from the places.
 use Rattle.std.proofs.Common.{◌≡◌, ℕ, ◌+◌, ◌%◌, ◌^◌, ◌<◌, Bool, true, false, cond, ◌||◌, eqb, ltb, List, [], ◌∷◌, map, length, get_or, replicate, Some, None, Ok, Err, Option, Result, sym, refl, ap, ◌∙◌, ⊎_elim, arith}
 use Rattle.std.proofs.lemmas.List.{length-map, get_or-map, get_or-replicate, ext_get_or}
 use Rattle.std.proofs.lemmas.Bool.{ltb-false, eq-eqb, eqb-true, both_ways}
