@@ -44,6 +44,7 @@ pub(crate) fn field_index(order: &NetworkOrder, position: usize) -> usize
 
 impl<S: Store> Network<S> {
     // A network in this order over five stores, emptied, with every label free.
+    // One by one: `map` over an array asks that a store can be dropped, which no caller has to know.
     pub fn make(order: NetworkOrder, a: S, b: S, c: S, d: S, e: S) -> Network<S>
         ensures stands { Nodes S.Told.shows result.nodes [] [] 5 }
         ensures asked { (j : ℕ) (x : Board Pair S) → j < 5 → S.Told.agrees (slice_index_or result.nodes j x).part [] }
