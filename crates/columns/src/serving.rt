@@ -39,6 +39,7 @@ impl<
         ensures stands { ⟦<Columns<A, B, C, D, E, F> as Fields>⟧.stand result [] (λ _. 0) }
         ensures asked { A.Told.agrees result.source.part [] × B.Told.agrees result.destination.part [] × C.Told.agrees result.source_port.part [] × D.Told.agrees result.destination_port.part [] × E.Told.agrees result.protocol.part [] × F.Told.agrees result.flags.part [] }
     {
+        // Not by Board::make, which asks that the board fits in memory: that is not known of a board of any engine.
         Columns {
             source: Board {
                 table: LabelTable::empty(),

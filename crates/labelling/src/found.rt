@@ -1,4 +1,5 @@
 // The labels found in a field or at a node: the first of a list with room for all.
+// No ArrayVec, which is not Copy: a search hands the labels on from node to node.
 ghost use Rattle.std.specs.Prelude.{◌≡◌, ◌≤◌, length};
 
 use parts::marks::PLACES;

@@ -44,6 +44,7 @@ pub(crate) fn field_index(order: &NetworkOrder, position: usize) -> usize
 
 impl<S: Store> Network<S> {
     // A network in this order over five stores, emptied, with every label free.
+    // One by one: `map` over an array asks that a store can be dropped, which no caller has to know.
     pub fn make(order: NetworkOrder, a: S, b: S, c: S, d: S, e: S) -> Network<S>
         ensures stands { Nodes S.Told.shows result.nodes [] [] 5 }
         ensures asked { (j : ℕ) (x : Board Pair S) → j < 5 → S.Told.agrees (slice_index_or result.nodes j x).part [] }
@@ -69,13 +70,13 @@ impl<S: Store> Network<S> {
         let start = field_index(&self.order, 1);
         let mut labels = [fields[start]; FIELDS];
         let mut new = 0;
-        for k in 0..NODES {
+        for (k, node) in self.nodes.iter_mut().enumerate() {
             let next = field_index(&self.order, k + 2);
             let key = Pair {
                 left: labels[k],
                 right: fields[next],
             };
-            let acquired = self.nodes[k].enter(key)?;
+            let acquired = node.enter(key)?;
             labels[k + 1] = acquired.label;
             new += acquired.new as u8;
         }
@@ -89,8 +90,8 @@ impl<S: Store> Network<S> {
         ensures order { self.new.order ≡ self.old.order }
     {
         let mut freed = 0;
-        for k in 0..NODES {
-            let last = self.nodes[k].leave(labels[k + 1])?;
+        for (k, node) in self.nodes.iter_mut().enumerate() {
+            let last = node.leave(labels[k + 1])?;
             freed += last as u8;
         }
         Ok(freed)
@@ -111,8 +112,8 @@ impl<S: Store> Network<S> {
         ensures { (fs : List Filed) (ns : List ℕ) → Nodes S.Told.shows self.now.nodes fs ns 5 → AllByRecursion First fs → result ≡ rows_in_use fs 5 }
     {
         let mut total = 0;
-        for k in 0..NODES {
-            total += self.nodes[k].table.in_use();
+        for node in &self.nodes {
+            total += node.table.in_use();
         }
         total
     }

@@ -10,7 +10,7 @@ ghost use Rattle.labelling.specs.Lists.{found_in};
 ghost use Rattle.network.specs.Searches.{found_at, AskedAlong, places_of, reached, pairs, pairs_by_rows, all_found};
 
 use crate::asks::ask_node;
-use crate::network::{NODES, Network, field_index};
+use crate::network::{Network, field_index};
 use fields::faults::Fault;
 use fields::orders::FIELDS;
 use labelling::board::Board;
@@ -37,12 +37,12 @@ impl<S: Store> Network<S> {
         let mut left = first.labels;
         let mut count = first.count;
         let mut asked = 0;
-        for k in 0..NODES {
+        for (k, node) in self.nodes.iter_mut().enumerate() {
             let next = field_index(&self.order, k + 2);
             let other = fields[next];
             let right = other.labels;
             let right_count = other.count;
-            let crossing = ask_node(&mut self.nodes[k], &left[0..count], &right[0..right_count])?;
+            let crossing = ask_node(node, &left[0..count], &right[0..right_count])?;
             left = crossing.found.labels;
             count = crossing.found.count;
             asked += crossing.asked;

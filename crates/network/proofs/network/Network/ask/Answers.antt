@@ -22,13 +22,13 @@ loop-k-init g c =
     let f = get_or fields start d₀ in
     let here : take f.count f.labels ≡ found_in fields start = labels_at fields start d₀ (search rules) in
     let at : start ≡ get_or c.args.self.now.order.fields 0 0 - 1 = c.field_index-start.ensures.value (omega arith) (omega arith) in
-    (f.few, f.size, search rules, λ j d h. refl, refl, λ fs ns d s lf. (λ j l. absurd (omega arith), here ∙ ap (found_in fields) at, refl, lf (get_or c.args.self.now.order.fields 0 0 - 1)))
+    (f.few, f.size, search rules, λ j d h. refl, λ fs ns d s lf. (λ j l. absurd (omega arith), here ∙ ap (found_in fields) at, refl, lf (get_or c.args.self.now.order.fields 0 0 - 1)))
 
 pub loop-k-preserved : goal.loop-k-preserved
 loop-k-preserved g c =
     let k = c.loop-k.k in
     let inv = c.loop-k.invariant in
-    let nodes = c.loop-k.self.nodes in
+    let nodes = c.loop-k.node-items in
     let old = c.args.self.now.nodes in
     let order = c.args.self.now.order in
     let fields = c.args.fields.now in
@@ -36,19 +36,18 @@ loop-k-preserved g c =
     let ln : k < length nodes = search rules in
     let next = c.field_index-next.result in
     let other = get_or fields next c.index-fields-next.result in
-    let o = get_or nodes k c.index-self-k.result in
+    let o = get_or nodes k c.node-item.result in
     let x = c.in_ok-crossing.crossing in
-    let at : next ≡ get_or order.fields (k + 1) 0 - 1 = next_is c.loop-k.self.order order k next inv.4 (c.field_index-next.ensures.value (omega arith) (omega arith)) in (
+    let at : next ≡ get_or order.fields (k + 1) 0 - 1 = next_is order order k next refl (c.field_index-next.ensures.value (omega arith) (omega arith)) in (
       x.found.few,
       x.found.size,
       omega (arith, c.in_ok-crossing.ensures.few),
       λ j d l. get_or-set_other nodes k j _ d (omega arith) ∙ inv.3 j d (omega arith),
-      inv.4,
       λ fs ns d s lf.
-          let i = inv.5 fs ns d s lf in
+          let i = inv.4 fs ns d s lf in
           let l : take (c.loop-k.count - 0) c.loop-k.left ≡ reached (places_of d old) found k = rw sub-zero i.1 in
           let r : take (other.count - 0) other.labels ≡ found (k + 1) = rw sub-zero (labels_at fields next c.index-fields-next.result (search rules) ∙ ap (found_in fields) at) in
-          let same : o ≡ get_or old k d = get_or_default nodes k c.index-self-k.result d ln ∙ inv.3 k d (omega arith) in
+          let same : o ≡ get_or old k d = get_or_default nodes k c.node-item.result d ln ∙ inv.3 k d (omega arith) in
           let here = s k d (omega arith) in
           let y = c.in_ok-crossing.ensures.crossed (map (at_node k) fs) (get_or ns k 0)
           (subst (λ (b : Board Pair g.row.S.Denot). Stands same_pair g.S.Told.shows b.table.slots b.part (map (at_node k) fs) (get_or ns k 0)) (sym same) here)
@@ -61,7 +60,7 @@ pub returns-in_err-crossing : goal.returns-in_err-crossing
 returns-in_err-crossing g c =
     let k = c.loop-k.k in
     let inv = c.loop-k.invariant in
-    let nodes = c.loop-k.self.nodes in
+    let nodes = c.loop-k.node-items in
     let old = c.args.self.now.nodes in
     let order = c.args.self.now.order in
     let fields = c.args.fields.now in
@@ -69,20 +68,20 @@ returns-in_err-crossing g c =
     let ln : k < length nodes = search rules in
     let next = c.field_index-next.result in
     let other = get_or fields next c.index-fields-next.result in
-    let o = get_or nodes k c.index-self-k.result in
-    let at : next ≡ get_or order.fields (k + 1) 0 - 1 = next_is c.loop-k.self.order order k next inv.4 (c.field_index-next.ensures.value (omega arith) (omega arith)) in
+    let o = get_or nodes k c.node-item.result in
+    let at : next ≡ get_or order.fields (k + 1) 0 - 1 = next_is order order k next refl (c.field_index-next.ensures.value (omega arith) (omega arith)) in
     record {
       asked = λ fs ns d s lf.
-          let i = inv.5 fs ns d s lf in
+          let i = inv.4 fs ns d s lf in
           let l : take (c.loop-k.count - 0) c.loop-k.left ≡ reached (places_of d old) found k = rw sub-zero i.1 in
           let r : take (other.count - 0) other.labels ≡ found (k + 1) = rw sub-zero (labels_at fields next c.index-fields-next.result (search rules) ∙ ap (found_in fields) at) in
-          let same : o ≡ get_or old k d = get_or_default nodes k c.index-self-k.result d ln ∙ inv.3 k d (omega arith) in
+          let same : o ≡ get_or old k d = get_or_default nodes k c.node-item.result d ln ∙ inv.3 k d (omega arith) in
           let here = s k d (omega arith) in
           absurd (c.in_err-crossing.ensures.crossed (map (at_node k) fs) (get_or ns k 0)
           (subst (λ (b : Board Pair g.row.S.Denot). Stands same_pair g.S.Told.shows b.table.slots b.part (map (at_node k) fs) (get_or ns k 0)) (sym same) here)
           (subst Labels (sym l) i.3) (subst Labels (sym r) (lf (get_or order.fields (k + 1) 0 - 1))));
       laws = λ fs ns d s first. (one_label g.S.Told.shows d c.args.self.now.nodes fs ns 5 s first, λ found. by_rows g.S.Told.shows d c.args.self.now.nodes fs ns 5 s first found 5 (omega arith));
-      order = inv.4;
+      order = refl;
     }
 
 pub returns : goal.returns
@@ -90,11 +89,11 @@ returns g c =
     let five : c.loop-k.k ≡ 5 = omega arith in
     record {
       asked = λ fs ns d s lf.
-          let i = c.loop-k.invariant.5 fs ns d s lf in
+          let i = c.loop-k.invariant.4 fs ns d s lf in
           let old = c.args.self.now.nodes in
           let found = found_at c.args.self.now.order.fields c.args.fields.now in
           let last : take c.loop-k.count c.loop-k.left ≡ reached (places_of d old) found 5 = i.1 ∙ ap (reached (places_of d old) found) five in
           (λ j l. i.0 j (omega arith), last, i.2 ∙ ap (pairs (places_of d old) found) five, all_reached g.S.Told.shows d old fs ns 5 s found (take c.loop-k.count c.loop-k.left) last);
       laws = λ fs ns d s first. (one_label g.S.Told.shows d c.args.self.now.nodes fs ns 5 s first, λ found. by_rows g.S.Told.shows d c.args.self.now.nodes fs ns 5 s first found 5 (omega arith));
-      order = c.loop-k.invariant.4;
+      order = refl;
     }

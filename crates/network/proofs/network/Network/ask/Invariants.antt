@@ -9,12 +9,11 @@ use Rattle.network.proofs.network.Network.ask.Given as goal
 
 abbrev pub invariant-loop-k : goal.invariant-loop-k
 invariant-loop-k g l = (l.count ≤ 96) × (length l.left ≡ 96) × (l.asked ≤ 9216 * l.k)
-    × ((j : ℕ) (d : Board Pair g.row.S.Denot) → l.k ≤ j → get_or l.self.nodes j d ≡ get_or l.initial.self.nodes j d)
-    × (l.self.order ≡ l.initial.self.order)
-    × ((fs : List Filed) (ns : List ℕ) (d : Board Pair g.row.S.Denot) → Nodes g.S.Told.shows l.initial.self.nodes fs ns 5 → ((j : ℕ) → Labels (found_in l.fields j))
-    → let found = found_at l.initial.self.order.fields l.fields in
-    let places = places_of d l.initial.self.nodes in
-    AskedAlong g.S.Told.shows g.S.Told.agrees d l.initial.self.nodes l.self.nodes found ns l.k
+    × ((j : ℕ) (d : Board Pair g.row.S.Denot) → l.k ≤ j → get_or l.node-items j d ≡ get_or l.initial.node-items j d)
+    × ((fs : List Filed) (ns : List ℕ) (d : Board Pair g.row.S.Denot) → Nodes g.S.Told.shows l.initial.node-items fs ns 5 → ((j : ℕ) → Labels (found_in l.fields j))
+    → let found = found_at l.fn.self.order.fields l.fields in
+    let places = places_of d l.initial.node-items in
+    AskedAlong g.S.Told.shows g.S.Told.agrees d l.initial.node-items l.node-items found ns l.k
     × (take l.count l.left ≡ reached places found l.k)
     × (l.asked ≡ pairs places found l.k)
     × Labels (reached places found l.k))

@@ -13,7 +13,6 @@ loop-k-init g c =
       refl,
       λ j d h. refl,
       λ j d l a. a,
-      refl,
       λ before after ns s few lf. (
         λ j d l. absurd (omega arith),
         λ i. replicate_below 6 (get_or fields start 0) i (lf start),
@@ -27,25 +26,25 @@ pub returns-in_err-acquired : goal.returns-in_err-acquired
 returns-in_err-acquired g c =
     let k = c.loop-k.k in
     let inv = c.loop-k.invariant in
-    let nodes = c.loop-k.self.nodes in
+    let nodes = c.loop-k.node-items in
     let fields = c.args.fields in
     let labels = c.loop-k.labels in
     let ln : k < length nodes = search rules in
     record {
       entered = λ before after ns s few lf.
-          let old = inv.5 before after ns s few lf in
+          let old = inv.4 before after ns s few lf in
           absurd (c.in_err-acquired.ensures.entered (map (at_node k) before) (map (at_node k) after) (get_or ns k 0)
-          (node_before g.S.Told.shows nodes c.args.self.now.nodes k c.index-self-k.result before after ns (omega arith) inv.2 s)
+          (node_before g.S.Told.shows nodes c.args.self.now.nodes k c.node-item.result before after ns (omega arith) inv.2 s)
           (map_length k before after few) (none_over (get_or labels k 0) (get_or fields c.field_index-next.result 0) (old.1 k) (lf c.field_index-next.result)));
-      asked = asks_more g.S.Told.agrees c.args.self.now.nodes nodes k c.enter.new.self c.index-self-k.result ln c.in_err-acquired.ensures.asked inv.3;
-      order = inv.4;
+      asked = asks_more g.S.Told.agrees c.args.self.now.nodes nodes k c.enter.new.self c.node-item.result ln c.in_err-acquired.ensures.asked inv.3;
+      order = refl;
     }
 
 pub loop-k-preserved : goal.loop-k-preserved
 loop-k-preserved g c =
     let k = c.loop-k.k in
     let inv = c.loop-k.invariant in
-    let nodes = c.loop-k.self.nodes in
+    let nodes = c.loop-k.node-items in
     let nodes₀ = c.args.self.now.nodes in
     let order = c.args.self.now.order in
     let shows = g.S.Told.shows in
@@ -56,15 +55,14 @@ loop-k-preserved g c =
     let ln : k < length nodes = search rules in
     let h = c.in_ok-acquired.acquired in
     let b = c.enter.new.self in
-    let d₀ = c.index-self-k.result in
-    let key = key_is order.fields fields labels k next (omega (arith, order.size)) (next_is c.loop-k.self.order order k next inv.4 (c.field_index-next.ensures.value (omega arith) (omega arith))) in (
+    let d₀ = c.node-item.result in
+    let key = key_is order.fields fields labels k next (omega (arith, order.size)) (next_is order order k next refl (c.field_index-next.ensures.value (omega arith) (omega arith))) in (
       omega (arith, bit_one h.new),
       length-set labels (k + 1) h.label ∙ inv.1,
       λ j d l. get_or-set_other nodes k j _ d (omega arith) ∙ inv.2 j d (omega arith),
       asks_more g.S.Told.agrees nodes₀ nodes k b d₀ ln c.in_ok-acquired.ensures.asked inv.3,
-      inv.4,
       λ before after ns s few lf.
-          let old = inv.5 before after ns s few lf in
+          let old = inv.4 before after ns s few lf in
           let e = c.in_ok-acquired.ensures.entered (map (at_node k) before) (map (at_node k) after) (get_or ns k 0)
           (node_before shows nodes nodes₀ k d₀ before after ns (omega arith) inv.2 s)
           (map_length k before after few) (none_over (get_or labels k 0) (get_or fields next 0) (old.1 k) (lf next)) in
@@ -83,8 +81,8 @@ returns g c =
     let F = arranged c.args.self.now.order.fields c.args.fields in
     record {
       entered = λ before after ns s few lf.
-          let r = c.loop-k.invariant.5 before after ns s few lf in
+          let r = c.loop-k.invariant.4 before after ns s few lf in
           (λ j d l. r.0 j d (omega arith), r.2 ∙ ap (fresh (before ++ after) (filed F c.loop-k.labels)) five, r.1, r.3, λ j d l u. r.4 j d (omega arith) u);
       asked = c.loop-k.invariant.3;
-      order = c.loop-k.invariant.4;
+      order = refl;
     }

@@ -7,10 +7,9 @@ use Rattle.network.proofs.network.Network.enter.Given as goal
 
 abbrev pub invariant-loop-k : goal.invariant-loop-k
 invariant-loop-k g l = (l.new ≤ l.k) × (length l.labels ≡ 6)
-    × ((j : ℕ) (d : Board Pair g.row.S.Denot) → l.k ≤ j → get_or l.self.nodes j d ≡ get_or l.initial.self.nodes j d)
-    × AsksKept g.S.Told.agrees l.initial.self.nodes l.self.nodes
-    × (l.self.order ≡ l.initial.self.order)
-    × ((before after : List Filed) (ns : List ℕ) → Nodes g.S.Told.shows l.initial.self.nodes (before ++ after) ns 5 → length (before ++ after) < 96 → Labels l.fields
-    → let f = filed (arranged l.initial.self.order.fields l.fields) l.labels in
-    Nodes g.S.Told.shows l.self.nodes (before ++ f ∷ after) ns l.k × Labels l.labels × (l.new ≡ fresh (before ++ after) f l.k) × First f
-    × Untold l.initial.self.nodes l.self.nodes (before ++ after) f l.k)
+    × ((j : ℕ) (d : Board Pair g.row.S.Denot) → l.k ≤ j → get_or l.node-items j d ≡ get_or l.initial.node-items j d)
+    × AsksKept g.S.Told.agrees l.initial.node-items l.node-items
+    × ((before after : List Filed) (ns : List ℕ) → Nodes g.S.Told.shows l.initial.node-items (before ++ after) ns 5 → length (before ++ after) < 96 → Labels l.fields
+    → let f = filed (arranged l.fn.self.order.fields l.fields) l.labels in
+    Nodes g.S.Told.shows l.node-items (before ++ f ∷ after) ns l.k × Labels l.labels × (l.new ≡ fresh (before ++ after) f l.k) × First f
+    × Untold l.initial.node-items l.node-items (before ++ after) f l.k)

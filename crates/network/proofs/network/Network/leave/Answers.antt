@@ -21,42 +21,41 @@ here {S} shows nodes nodes₀ k d before after f ns l kept s =
     (s k d l))
 
 pub loop-k-init : goal.loop-k-init
-loop-k-init g c = (search rules, λ j d h. refl, λ j d l a. a, refl, λ before after fields ns s. (λ j d l. absurd (omega arith), refl, λ j d l. absurd (omega arith)))
+loop-k-init g c = (search rules, λ j d h. refl, λ j d l a. a, λ before after fields ns s. (λ j d l. absurd (omega arith), refl, λ j d l. absurd (omega arith)))
 
 pub returns-in_err-last : goal.returns-in_err-last
 returns-in_err-last g c =
     let k = c.loop-k.k in
     let inv = c.loop-k.invariant in
-    let nodes = c.loop-k.self.nodes in
+    let nodes = c.loop-k.node-items in
     let labels = c.args.labels in
     let ln : k < length nodes = search rules in
     record {
       left = λ before after fields ns s.
           absurd (c.in_err-last.ensures.left (map (at_node k) before) (map (at_node k) after) (key_at k (filed fields labels)) (get_or ns k 0)
-          (here g.S.Told.shows nodes c.args.self.now.nodes k c.index-self-k.result before after (filed fields labels) ns (omega arith) inv.1 s));
-      asked = asks_more g.S.Told.agrees c.args.self.now.nodes nodes k c.leave.new.self c.index-self-k.result ln c.in_err-last.ensures.asked inv.2;
-      order = inv.3;
+          (here g.S.Told.shows nodes c.args.self.now.nodes k c.node-item.result before after (filed fields labels) ns (omega arith) inv.1 s));
+      asked = asks_more g.S.Told.agrees c.args.self.now.nodes nodes k c.leave.new.self c.node-item.result ln c.in_err-last.ensures.asked inv.2;
+      order = refl;
     }
 
 pub loop-k-preserved : goal.loop-k-preserved
 loop-k-preserved g c =
     let k = c.loop-k.k in
     let inv = c.loop-k.invariant in
-    let nodes = c.loop-k.self.nodes in
+    let nodes = c.loop-k.node-items in
     let nodes₀ = c.args.self.now.nodes in
     let shows = g.S.Told.shows in
     let labels = c.args.labels in
     let ln : k < length nodes = search rules in
     let last = c.in_ok-last.last in
     let b = c.leave.new.self in
-    let d₀ = c.index-self-k.result in (
+    let d₀ = c.node-item.result in (
       omega (arith, bit_one last),
       λ j d l. get_or-set_other nodes k j _ d (omega arith) ∙ inv.1 j d (omega arith),
       asks_more g.S.Told.agrees nodes₀ nodes k b d₀ ln c.in_ok-last.ensures.asked inv.2,
-      inv.3,
       λ before after fields ns s.
           let f = filed fields labels in
-          let old = inv.4 before after fields ns s in
+          let old = inv.3 before after fields ns s in
           let e = c.in_ok-last.ensures.left (map (at_node k) before) (map (at_node k) after) (key_at k f) (get_or ns k 0)
           (here shows nodes nodes₀ k d₀ before after f ns (omega arith) inv.1 s) in
           let went : last ≡ unused (before ++ after) f k = e.0 ∙ unused_split before after f k (key_at k f) refl in (
@@ -71,8 +70,8 @@ returns g c =
     let five : c.loop-k.k ≡ 5 = omega arith in
     record {
       left = λ before after fields ns s.
-          let r = c.loop-k.invariant.4 before after fields ns s in
+          let r = c.loop-k.invariant.3 before after fields ns s in
           (λ j d l. r.0 j d (omega arith), r.1 ∙ ap (fresh (before ++ after) (filed fields c.args.labels)) five, λ j d l u. r.2 j d (omega arith) u);
       asked = c.loop-k.invariant.2;
-      order = c.loop-k.invariant.3;
+      order = refl;
     }
