@@ -2,6 +2,7 @@
 ghost use Rattle.std.specs.Prelude.{◌≡◌, ℕ, ◌%◌, ◌^◌, true, length, replicate, if◌then◌else◌, None, slice_index_or};
 ghost use Rattle.fields.specs.declared.protocols.ProtocolRow.{ProtocolRow};
 ghost use Rattle.fields.specs.Protocols.{fits_byte, same_protocol};
+ghost use Rattle.parts.specs.Asked.{Agrees};
 ghost use Rattle.engines.specs.Numbers.{kept_label, Reached};
 ghost use Rattle.std.proofs.Common.{rules};
 
@@ -85,7 +86,7 @@ impl Told<Protocol> for Direct {
 
     ghost shows = { Reached };
 
-    ghost agrees = { λ s l. s.asked ≡ length l % 2 ^ 32 };
+    ghost agrees = { λ s l. Agrees s.asked l };
 
     ghost proper = { Prim.search rules };
 

@@ -2,6 +2,7 @@
 ghost use Rattle.std.specs.Prelude.{◌≡◌, ℕ, ◌%◌, ◌^◌, ◌<◌, ◌≤◌, true, false, List, [], ◌∷◌, ◌++◌, length, replicate, is_err, IfOk, Err, OnOk};
 ghost use Rattle.fields.specs.declared.faults.Fault.TheVariants.{Short};
 ghost use Rattle.fields.specs.Faults.{answer, unless};
+ghost use Rattle.parts.specs.Asked.{Agrees};
 ghost use Rattle.parts.specs.Meaning.{Meaning, nothing, set_fault, after_set, cleared, after_clear, asked_once, list_fault};
 ghost use Rattle.parts.specs.Marks.{labels_of, over_start};
 ghost use Rattle.engines.specs.Scans.{Shows, RestKept};
@@ -57,7 +58,7 @@ impl<R: Copy, T: Rows<R>, V: Kind<Row = R>> Told<V> for Scan<R, T> {
 
     ghost shows = { Shows V.Kind.plain T.Rows.items };
 
-    ghost agrees = { λ s l. s.asked ≡ length l % 2 ^ 32 };
+    ghost agrees = { λ s l. Agrees s.asked l };
 
     ghost proper = { Prim.search rules };
 
@@ -74,7 +75,7 @@ impl<R: Copy, T: Rows<R>, V: Kind<Row = R>> Told<V> for Scan<R, T> {
         ensures result { (m : Meaning V) → Shows V.Kind.plain T.Rows.items self.old m → result ≡ answer (set_fault V.Key.eq V.Key.labels m.places place value) tt }
         ensures held { (m : Meaning V) → Shows V.Kind.plain T.Rows.items self.old m → Shows V.Kind.plain T.Rows.items self.new (after_set V.Key.eq V.Key.labels m place value) }
         ensures kept { is_err result ≡ true → self.new ≡ self.old }
-        ensures asked { (l : List ℕ) → self.old.asked ≡ length l % 2 ^ 32 → self.new.asked ≡ length l % 2 ^ 32 }
+        ensures asked { (l : List ℕ) → Agrees self.old.asked l → Agrees self.new.asked l }
         ensures rest { RestKept T.Rows.items self.old self.new }
     {
         let at = place as usize;
@@ -90,7 +91,7 @@ impl<R: Copy, T: Rows<R>, V: Kind<Row = R>> Told<V> for Scan<R, T> {
         ensures result { (m : Meaning V) → Shows V.Kind.plain T.Rows.items self.old m → result ≡ cleared m.places place }
         ensures held { (m : Meaning V) → Shows V.Kind.plain T.Rows.items self.old m → Shows V.Kind.plain T.Rows.items self.new (after_clear m place) }
         ensures kept { is_err result ≡ true → self.new ≡ self.old }
-        ensures asked { (l : List ℕ) → self.old.asked ≡ length l % 2 ^ 32 → self.new.asked ≡ length l % 2 ^ 32 }
+        ensures asked { (l : List ℕ) → Agrees self.old.asked l → Agrees self.new.asked l }
         ensures rest { RestKept T.Rows.items self.old self.new }
     {
         let at = place as usize;
@@ -105,7 +106,7 @@ impl<R: Copy, T: Rows<R>, V: Kind<Row = R>> Engine<V> for Scan<R, T> {
         ensures result { (m : Meaning V) → Shows V.Kind.plain T.Rows.items self.old m → result ≡ answer (list_fault (length list.old)) (length (labels_of (λ v. V.Kind.satisfied v number) m.places)) }
         ensures written { (m : Meaning V) → Shows V.Kind.plain T.Rows.items self.old m → list.new ≡ unless (list_fault (length list.old)) list.old (over_start (labels_of (λ v. V.Kind.satisfied v number) m.places) list.old) }
         ensures held { (m : Meaning V) → Shows V.Kind.plain T.Rows.items self.old m → Shows V.Kind.plain T.Rows.items self.new (unless (list_fault (length list.old)) m (asked_once m)) }
-        ensures asked { OnOk result ((l : List ℕ) → self.old.asked ≡ length l % 2 ^ 32 → self.new.asked ≡ length (l ++ number ∷ []) % 2 ^ 32) }
+        ensures asked { OnOk result ((l : List ℕ) → Agrees self.old.asked l → Agrees self.new.asked (l ++ number ∷ [])) }
         ensures short { length list.old < 96 → result ≡ Err (Short (length list.old)) }
         ensures kept { is_err result ≡ true → (self.new ≡ self.old) × (list.new ≡ list.old) }
         ensures few { IfOk result (λ n. n ≤ 96) }

@@ -8,8 +8,10 @@ use crate::faults::Fault;
 use crate::keys::Key;
 use crate::kinds::Kind;
 
-#[derive(Clone, Copy, Debug, PartialEq, Eq)]
+// An enum of its own and no Option, whose None would read as no protocol where this takes any.
+#[derive(Clone, Copy, Debug, Default, PartialEq, Eq)]
 pub enum ProtocolRow {
+    #[default]
     Any,
     Only(u8),
 }

@@ -8,7 +8,7 @@ use crate::faults::Fault;
 use crate::keys::Key;
 use crate::kinds::Kind;
 
-#[derive(Clone, Copy, Debug, PartialEq, Eq)]
+#[derive(Clone, Copy, Debug, Default, PartialEq, Eq)]
 pub struct RangeRow {
     pub low: u16,
     pub high: u16,

@@ -8,13 +8,15 @@ use fields::protocols::ProtocolRow;
 use fields::ranges::RangeRow;
 
 // An exclusive filter takes a packet alone, and the best of them wins; all non-exclusive ones that match are listed.
-#[derive(Clone, Copy, PartialEq, Eq, Debug)]
+#[derive(Clone, Copy, Default, PartialEq, Eq, Debug)]
 pub enum Class {
+    #[default]
     Exclusive,
     NonExclusive,
 }
 
-#[derive(Clone, Copy)]
+// The default row is no filter's, as none has the identifier 0.
+#[derive(Clone, Copy, Default)]
 pub struct FilterRow {
     pub identifier: u16,
     pub source: PrefixRow,
@@ -28,32 +30,6 @@ pub struct FilterRow {
     pub class: Class,
     // where packets that the filter takes go
     pub flow: u16,
-}
-
-// What stands in a place of a table that is not in use: no filter's row, as no filter has the identifier 0.
-// Written out, since the rows of values have no default to derive it from.
-impl Default for FilterRow {
-    ghost is_default = { λ row. row.identifier ≡ 0 };
-
-    fn default() -> FilterRow {
-        let prefix = PrefixRow {
-            address: 0,
-            length: 0,
-        };
-        let range = RangeRow { low: 0, high: 0 };
-        FilterRow {
-            identifier: 0,
-            source: prefix,
-            destination: prefix,
-            source_port: range,
-            destination_port: range,
-            protocol: ProtocolRow::Any,
-            flags: FlagRow { mask: 0, wanted: 0 },
-            tag: 0,
-            class: Class::Exclusive,
-            flow: 0,
-        }
-    }
 }
 
 #[derive(Clone, Copy)]

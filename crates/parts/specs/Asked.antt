@@ -1,6 +1,10 @@
 -- A part that is asked one question after another.
-use Rattle.std.specs.Prelude.{List, [], ◌∷◌, ◌++◌, Ok, Err, Result}
+use Rattle.std.specs.Prelude.{◌≡◌, ℕ, ◌%◌, ◌^◌, List, [], ◌∷◌, ◌++◌, length, Ok, Err, Result}
 use Rattle.parts.specs.Meaning.{Meaning, asked_once}
+
+-- a part whose asked number this is may have been asked exactly this list of questions since it was emptied
+abbrev pub Agrees : {Q : Type 0} → ℕ → List Q → Type 0
+Agrees asked l = asked ≡ length l % 2 ^ 32
 
 -- the meaning after a list of questions: the same places, and each question counted
 abbrev pub after_questions : {V Q : Type 0} → Meaning V → List Q → Meaning V

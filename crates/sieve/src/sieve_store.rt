@@ -2,6 +2,7 @@
 ghost use Rattle.std.specs.Prelude.{◌≡◌, ℕ, ◌%◌, ◌^◌, ◌<◌, ◌≤◌, true, false, List, [], ◌∷◌, ◌++◌, length, IfSome, is_err, IfOk, Some, Err, OnOk, slice_index};
 ghost use Rattle.fields.specs.declared.faults.Fault.{Fault};
 ghost use Rattle.fields.specs.Faults.{answer, unless};
+ghost use Rattle.parts.specs.Asked.{Agrees};
 ghost use Rattle.parts.specs.Meaning.{Meaning, nothing, find as label_of, asked_once, label_fault};
 ghost use Rattle.stores.specs.declared.pairs.Pair.{Pair};
 ghost use Rattle.stores.specs.Pairs.{pair, same_pair};
@@ -63,7 +64,7 @@ impl<S: Store> Sieve<S> {
     pub fn sift(&mut self, left: u8, right: u8) -> Result<Option<u8>, Fault>
         ensures result { (m : Meaning Pair) → Shows S.Told.shows self.old m → result ≡ answer (label_fault (left ∷ right ∷ [])) (label_of same_pair m.places (pair left right)) }
         ensures held { (m : Meaning Pair) → Shows S.Told.shows self.old m → Shows S.Told.shows self.new (unless (label_fault (left ∷ right ∷ [])) m (asked_once m)) }
-        ensures asked { OnOk result ((l : List Pair) → self.old.asked ≡ length l % 2 ^ 32 → self.new.asked ≡ length (l ++ pair left right ∷ []) % 2 ^ 32) }
+        ensures asked { OnOk result ((l : List Pair) → Agrees self.old.asked l → Agrees self.new.asked (l ++ pair left right ∷ [])) }
         ensures refused { (f : Fault) → label_fault (left ∷ right ∷ []) ≡ Some f → result ≡ Err f }
         ensures kept { is_err result ≡ true → self.new ≡ self.old }
         ensures below { IfOk result (λ o. IfSome o (λ l. l < 96)) }
@@ -86,7 +87,7 @@ impl<S: Store> Told<Pair> for Sieve<S> {
 
     ghost shows = { Shows S.Told.shows };
 
-    ghost agrees = { λ s l. s.asked ≡ length l % 2 ^ 32 };
+    ghost agrees = { λ s l. Agrees s.asked l };
 
     ghost proper = { λ s m h. sieved_proper S.Told.shows S.Told.proper s.below s.counters s.asked m h };
 

@@ -1,5 +1,6 @@
 // A store with an index: pairs at their places, and what leads to the place of each.
 ghost use Rattle.std.specs.Prelude.{◌≡◌, ◌%◌, ◌^◌, ◌<◌, length, replicate, IfSome, None};
+ghost use Rattle.parts.specs.Asked.{Agrees};
 ghost use Rattle.parts.specs.Meaning.{Meaning, nothing, find as label_of};
 ghost use Rattle.stores.specs.declared.pairs.Pair.{Pair};
 ghost use Rattle.stores.specs.Pairs.{same_pair, Within};
@@ -57,7 +58,7 @@ impl<I: Index> Told<Pair> for IndexedStore<I> {
 
     ghost shows = { Shows I.Index.leads };
 
-    ghost agrees = { λ s l. s.asked ≡ length l % 2 ^ 32 };
+    ghost agrees = { λ s l. Agrees s.asked l };
 
     ghost proper = { λ s m h. stored_proper (I.Index.leads s.index) s.pairs s.asked m h };
 

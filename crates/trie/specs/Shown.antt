@@ -1,5 +1,5 @@
 -- What a trie engine shows: the values that the places hold, and how often it was asked.
-use Rattle.std.specs.Prelude.{◌≡◌, ℕ, ◌%◌, ◌^◌, ◌<◌, List, length, Option}
+use Rattle.std.specs.Prelude.{◌≡◌, ℕ, ◌^◌, ◌<◌, List, Option}
 use Rattle.fields.specs.declared.prefixes.Prefix.{Prefix}
 use Rattle.parts.specs.Meaning.{Meaning}
 use Rattle.trie.specs.declared.tries.Trie.{Trie}
@@ -11,7 +11,3 @@ pub record Shown (places : List (Option Prefix)) (asked : ℕ) (m : Meaning Pref
 
 abbrev pub Shows : Trie → Meaning Prefix → Type 0
 Shows t m = Shown t.tree.tables.places t.asked m
-
--- which lists of questions agree with an asked number
-abbrev pub Agrees : ℕ → List ℕ → Type 0
-Agrees asked l = length l % 2 ^ 32 ≡ asked

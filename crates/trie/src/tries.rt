@@ -1,10 +1,11 @@
 // The trie engine: it finds the prefixes that an address begins with by one walk down a binary trie.
 ghost use Rattle.std.specs.Prelude.{◌≡◌, ℕ, ◌^◌, ◌<◌, ◌≤◌, [], None, slice_index_or};
 ghost use Rattle.std.proofs.Common.{subst};
+ghost use Rattle.parts.specs.Asked.{Agrees};
 ghost use Rattle.parts.specs.Meaning.{Meaning, nothing};
 ghost use Rattle.fields.specs.declared.prefixes.Prefix.{Prefix};
 ghost use Rattle.trie.specs.Strings.{string_count};
-ghost use Rattle.trie.specs.Shown.{Shows, Agrees};
+ghost use Rattle.trie.specs.Shown.{Shows};
 ghost use Rattle.trie.specs.Meant.{size_from, single_from};
 
 use crate::tree::Tree;
