@@ -1,6 +1,7 @@
 // The refusals of the classifier and everything below it.
 ghost use Rattle.std.specs.Prelude.{◌≡◌, Some};
 ghost use Rattle.fields.specs.Faults.{number, detail, fault_text};
+ghost use Rattle.fields.specs.declared.faults.Fault.{Fault};
 
 use std::error::Error;
 use std::fmt;
@@ -91,6 +92,14 @@ impl Fault {
             Fault::Range(d) | Fault::Stands(d) | Fault::Unknown(d) | Fault::Twin(d) => d as u32,
             Fault::Crowded => 96,
         }
+    }
+
+    // Its number and its detail, which no other refusal has.
+    pub fn told(self) -> (u8, u32)
+        ensures value { result ≡ (number self, detail self) }
+        ensures alone { (f : Fault) → number f ≡ number self → detail f ≡ detail self → f ≡ self }
+    {
+        (self.number(), self.detail())
     }
 }
 
