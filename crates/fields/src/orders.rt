@@ -46,6 +46,7 @@ fn first_wrong(fields: &[u8]) -> Option<u8>
     requires { length fields.now ≡ field_count }
     ensures { result ≡ first_wrong field_count [] 1 fields.now }
 {
+    // a loop, as the test of a place looks at the places before it, which a chain's closure would have to index
     for (i, field) in fields.iter().enumerate() {
         if !goes_on(&fields[0..i], *field) {
             return Some(i as u8 + 1);

@@ -66,11 +66,7 @@ fn within(number: u32, length: u8) -> u32
     requires { length ≤ 32 }
     ensures { result ≡ number / 2 ^ (32 - length) }
 {
-    if length == 0 {
-        0
-    } else {
-        number >> (32 - length)
-    }
+    number.checked_shr(32 - length as u32).unwrap_or(0)
 }
 
 // The bits beyond the first.
@@ -78,9 +74,5 @@ fn beyond(number: u32, length: u8) -> u32
     requires { length ≤ 32 }
     ensures { result ≡ number % 2 ^ (32 - length) }
 {
-    if length == 0 {
-        number
-    } else {
-        number & ((1 << (32 - length)) - 1)
-    }
+    number & u32::MAX.checked_shr(length as u32).unwrap_or(0)
 }
