@@ -9,10 +9,11 @@ mod edits;
 mod entering;
 pub mod making;
 
+// Six engines by name: what is told to each engine is said of each, which over one parameter for all columns would be the same six facts as laws of a trait.
 #[derive(Drop)]
 pub struct Classifier<A, B, C, D, E, F, S> {
     table: FilterTable,
-    // the labels of the filters of the table, in the same order
+    // the labels of the filters of the table, in the same order: beside the table, which is used without labels too
     labels: ArrayVec<FilterLabels, CAPACITY>,
     columns: Columns<A, B, C, D, E, F>,
     network: Network<S>,

@@ -7,11 +7,11 @@ ghost use Rattle.labelling.specs.Boards.{Labels};
 ghost use Rattle.labelling.specs.Lists.{found_in};
 ghost use Rattle.columns.specs.Fields.{Placed, placed, fresh, CountedColumns, values_in_use, once_more};
 
-use crate::columns::Entered;
 use fields::faults::Fault;
 use fields::orders::FIELDS;
 use filters::filter::Filter;
 use filters::rows::Header;
+use labelling::entered::Entered;
 use labelling::found::Found;
 
 pub trait Fields {

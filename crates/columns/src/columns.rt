@@ -1,6 +1,5 @@
 // The six columns: for each field a board, its engine and the labels of its values. All that differs from field to field is here.
 use fields::flags::FlagMask;
-use fields::orders::FIELDS;
 use fields::prefixes::Prefix;
 use fields::protocols::Protocol;
 use fields::ranges::PortRange;
@@ -14,11 +13,4 @@ pub struct Columns<A, B, C, D, E, F> {
     pub(crate) destination_port: Board<PortRange, D>,
     pub(crate) protocol: Board<Protocol, E>,
     pub(crate) flags: Board<FlagMask, F>,
-}
-
-// A filter's labels in the fields, and how many came into use.
-#[derive(Clone, Copy)]
-pub struct Entered {
-    pub labels: [u8; FIELDS],
-    pub new: u8,
 }

@@ -4,7 +4,7 @@ ghost use Rattle.columns.specs.Fields.{Stand, ToldColumns, AnsweredColumns};
 
 use crate::asking::ask;
 use crate::calls::Fields;
-use crate::columns::{Columns, Entered};
+use crate::columns::Columns;
 use engines::engine::Engine;
 use fields::faults::Fault;
 use fields::flags::FlagMask;
@@ -15,6 +15,7 @@ use fields::ranges::PortRange;
 use filters::filter::Filter;
 use filters::rows::Header;
 use labelling::board::Board;
+use labelling::entered::Entered;
 use labelling::found::Found;
 use labelling::told::{emptied, enter, leave};
 use labels::table::LabelTable;
@@ -69,6 +70,7 @@ impl<
     }
 }
 
+// Each call is written out for the six fields, whose tables have different types.
 impl<
     A: Engine<Prefix>,
     B: Engine<Prefix>,
@@ -83,6 +85,7 @@ impl<
 
     ghost answered = { AnsweredColumns A.Told.agrees B.Told.agrees C.Told.agrees D.Told.agrees E.Told.agrees F.Told.agrees };
 
+    // By table and part, not by the board's methods: see labelling's `enter`.
     fn enter(&mut self, filter: Filter) -> Result<Entered, Fault> {
         let a = enter(&mut self.source.table, &mut self.source.part, filter.source)?;
         let b = enter(
@@ -113,6 +116,7 @@ impl<
         })
     }
 
+    // By table and part, as `enter`.
     fn leave(&mut self, labels: [u8; FIELDS]) -> Result<u8, Fault> {
         let a = leave(&mut self.source.table, &mut self.source.part, labels[0])?;
         let b = leave(
@@ -148,6 +152,7 @@ impl<
         Ok([a, b, c, d, e, f])
     }
 
+    // An inspection names a field by its number.
     fn count(&self, field: usize, label: u8) -> u8 {
         match field {
             0 => self.source.table.count(label),
@@ -160,6 +165,7 @@ impl<
         }
     }
 
+    // One by one, since the tables have different types.
     fn in_use(&self) -> usize {
         self.source.table.in_use()
             + self.destination.table.in_use()

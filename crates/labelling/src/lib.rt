@@ -1,5 +1,6 @@
 #![tactic(auto)]
 
 pub mod board;
+pub mod entered;
 pub mod found;
 pub mod told;

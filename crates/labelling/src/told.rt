@@ -11,6 +11,7 @@ use labels::table::{Acquired, LabelTable};
 use parts::told::Told;
 
 // The part, emptied.
+// Apart from a board's `make`, for the same reason as `enter`.
 pub fn emptied<V: Key, P: Told<V>>(mut part: P) -> P
     ensures held { P.Told.shows result nothing }
     ensures asked { P.Told.agrees result [] }
@@ -39,6 +40,7 @@ pub fn enter<V: Key, P: Told<V>>(
 }
 
 // Gives a label back, for one filter that has it, and says whether it was freed; then the part is told.
+// Apart from a board's method, for the same reason as `enter`.
 pub fn leave<V: Key, P: Told<V>>(
     table: &mut LabelTable<V>,
     part: &mut P,

@@ -6,6 +6,7 @@ ghost use Rattle.labels.specs.Labels.{here, used, uses, occurrences, standing, L
 
 use crate::table::{Acquired, LabelTable, Released, Used};
 use fields::keys::Key;
+use parts::checks::entry_at;
 use parts::marks::PLACES;
 
 impl<K: Key> LabelTable<K> {
@@ -93,7 +94,7 @@ impl<K: Key> LabelTable<K> {
     fn used_at(&self, label: u8) -> Option<Used<K>>
         ensures { result ≡ slice_index_or self.now.slots label None }
     {
-        self.slots.get(label as usize).copied().flatten()
+        entry_at(&self.slots, label as usize)
     }
 }
 

@@ -11,6 +11,7 @@ pub struct Used<K> {
 }
 
 // A slot for each label, free or in use.
+// The standing filters lie elsewhere, so no invariant can speak of them: each call says for which filters it holds.
 #[derive(Drop)]
 pub struct LabelTable<K> {
     pub(crate) slots: [Option<Used<K>>; PLACES],

@@ -8,19 +8,13 @@ ghost use Rattle.stores.specs.Pairs.{same_pair};
 ghost use Rattle.stores.specs.declared.pairs.Pair.{Pair};
 ghost use Rattle.network.specs.Products.{Crossed, row, marks_after};
 
+use crate::searched::Searched;
 use fields::faults::Fault;
 use labelling::board::Board;
 use labelling::found::Found;
 use parts::marks::{PLACES, mark, write_marked};
 use stores::pairs::Pair;
 use stores::store::Store;
-
-// What a node answered: the labels found there, and how many pairs it was asked.
-#[derive(Clone, Copy)]
-pub(crate) struct Crossing {
-    pub(crate) found: Found,
-    pub(crate) asked: usize,
-}
 
 // Asks the pairs of one left label, and marks the labels found.
 fn ask_row<S: Store>(
@@ -39,7 +33,7 @@ fn ask_row<S: Store>(
 }
 
 // Asks every pair of a left and a right label.
-fn ask_pairs<S: Store>(store: &mut S, left: &[u8], right: &[u8]) -> Result<Crossing, Fault>
+fn ask_pairs<S: Store>(store: &mut S, left: &[u8], right: &[u8]) -> Result<Searched, Fault>
     requires left { length left.now ≤ 96 }
     requires right { length right.now ≤ 96 }
     ensures crossed { (m : Meaning Pair) → S.Told.shows store.old m → Labels left.now → Labels right.now → Succeeds result (λ x. Crossed S.Told.shows S.Told.agrees store.old store.new m left.now right.now (take x.found.count x.found.labels) x.asked) }
@@ -51,7 +45,7 @@ fn ask_pairs<S: Store>(store: &mut S, left: &[u8], right: &[u8]) -> Result<Cross
     }
     let mut labels = [0u8; PLACES];
     let count = write_marked(&marks, &mut labels)?;
-    Ok(Crossing {
+    Ok(Searched {
         found: Found { labels, count },
         asked: left.len() * right.len(),
     })
@@ -62,7 +56,7 @@ pub(crate) fn ask_node<S: Store>(
     node: &mut Board<Pair, S>,
     left: &[u8],
     right: &[u8],
-) -> Result<Crossing, Fault>
+) -> Result<Searched, Fault>
     requires left { length left.now ≤ 96 }
     requires right { length right.now ≤ 96 }
     ensures crossed { (fs : List (Standing Pair)) (n : ℕ) → Stands same_pair S.Told.shows node.old.table.slots node.old.part fs n → Labels left.now → Labels right.now → Succeeds result (λ x. Crossed S.Told.shows S.Told.agrees node.old.part node.new.part (meaning (keys node.old.table.slots) n) left.now right.now (take x.found.count x.found.labels) x.asked) }

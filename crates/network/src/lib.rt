@@ -3,3 +3,4 @@
 mod asks;
 pub mod network;
 pub mod search;
+pub mod searched;

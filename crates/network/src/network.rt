@@ -12,19 +12,14 @@ ghost use Rattle.network.specs.Nodes.{key_at, at_node, Filed, filed, First, Node
 use fields::faults::Fault;
 use fields::orders::{FIELDS, NetworkOrder};
 use labelling::board::Board;
+use labelling::entered::Entered;
 use stores::pairs::Pair;
 use stores::store::Store;
 
 // How many nodes combine the fields.
 pub const NODES: usize = FIELDS - 1;
 
-// A filter's labels along the nodes, after its first field's label, and how many came into use.
-#[derive(Clone, Copy)]
-pub struct Entered {
-    pub labels: [u8; FIELDS],
-    pub new: u8,
-}
-
+// The standing filters lie elsewhere, so no invariant can speak of them: each call says for which filters it holds.
 #[derive(Drop)]
 pub struct Network<S> {
     pub(crate) order: NetworkOrder,
@@ -36,15 +31,14 @@ pub(crate) fn field_index(order: &NetworkOrder, position: usize) -> usize
     ensures value { 1 ≤ position → position ≤ 6 → result ≡ slice_index order.now.fields (position - 1) - 1 }
     ensures within { result < 6 }
 {
-    match order.field_at(position) {
-        Some(field) => field as usize - 1,
-        None => 0,
-    }
+    order
+        .field_at(position)
+        .map_or(0, |field| field as usize - 1)
 }
 
 impl<S: Store> Network<S> {
     // A network in this order over five stores, emptied, with every label free.
-    // One by one: `map` over an array asks that a store can be dropped, which no caller has to know.
+    // Five stores, one by one: `map` over an array of them wants that a store may be let go (it asks `S: Drop`).
     pub fn make(order: NetworkOrder, a: S, b: S, c: S, d: S, e: S) -> Network<S>
         ensures stands { Nodes S.Told.shows result.nodes [] [] 5 }
         ensures asked { (j : ℕ) (x : Board Pair S) → j < 5 → S.Told.agrees (slice_index_or result.nodes j x).part [] }
@@ -61,7 +55,7 @@ impl<S: Store> Network<S> {
         }
     }
 
-    // Gives a filter with these labels in its fields its labels along the nodes.
+    // Gives a filter with these labels in its fields its labels along the nodes, before which its first field's label stands.
     pub fn enter(&mut self, fields: [u8; FIELDS]) -> Result<Entered, Fault>
         ensures entered { (before after : List Filed) (ns : List ℕ) → Nodes S.Told.shows self.old.nodes (before ++ after) ns 5 → length (before ++ after) < 96 → Labels fields → Succeeds result (λ e. Nodes S.Told.shows self.new.nodes (before ++ filed (arranged self.old.order.fields fields) e.labels ∷ after) ns 5 × (e.new ≡ fresh (before ++ after) (filed (arranged self.old.order.fields fields) e.labels) 5) × Labels e.labels × First (filed (arranged self.old.order.fields fields) e.labels) × Untold self.old.nodes self.new.nodes (before ++ after) (filed (arranged self.old.order.fields fields) e.labels) 5) }
         ensures asked { AsksKept S.Told.agrees self.old.nodes self.new.nodes }
@@ -101,10 +95,10 @@ impl<S: Store> Network<S> {
     pub fn count(&self, node: usize, label: u8) -> u8
         ensures { (fs : List Filed) (ns : List ℕ) → Nodes S.Told.shows self.now.nodes fs ns 5 → node < 5 → AllByRecursion (λ f. slice_index f.along (node + 1) ≡ label → result ≡ occurrences same_pair (key_at node f) (map (at_node node) fs)) fs }
     {
-        if node >= NODES {
-            return 0;
+        match self.nodes.get(node) {
+            Some(node) => node.table.count(label),
+            None => 0,
         }
-        self.nodes[node].table.count(label)
     }
 
     // How many combination labels are in use, at all nodes together.

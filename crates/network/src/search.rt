@@ -11,19 +11,13 @@ ghost use Rattle.network.specs.Searches.{found_at, AskedAlong, places_of, reache
 
 use crate::asks::ask_node;
 use crate::network::{Network, field_index};
+use crate::searched::Searched;
 use fields::faults::Fault;
 use fields::orders::FIELDS;
 use labelling::board::Board;
 use labelling::found::Found;
 use stores::pairs::Pair;
 use stores::store::Store;
-
-// The labels found at the last node, and how many pairs were asked at all nodes.
-#[derive(Clone, Copy)]
-pub struct Searched {
-    pub found: Found,
-    pub asked: usize,
-}
 
 impl<S: Store> Network<S> {
     // Asks along the nodes, from the labels found in the fields.
@@ -39,13 +33,11 @@ impl<S: Store> Network<S> {
         let mut asked = 0;
         for (k, node) in self.nodes.iter_mut().enumerate() {
             let next = field_index(&self.order, k + 2);
-            let other = fields[next];
-            let right = other.labels;
-            let right_count = other.count;
-            let crossing = ask_node(node, &left[0..count], &right[0..right_count])?;
-            left = crossing.found.labels;
-            count = crossing.found.count;
-            asked += crossing.asked;
+            let right = fields[next];
+            let searched = ask_node(node, &left[0..count], &right.labels[0..right.count])?;
+            left = searched.found.labels;
+            count = searched.found.count;
+            asked += searched.asked;
         }
         Ok(Searched {
             found: Found {

@@ -62,6 +62,7 @@ impl<
 
     ghost network_order = { λ classifier. classifier.network.order };
 
+    // No part refuses while the filters stand; a refusal from here could leave nothing as it was, so none is handed on.
     fn enter(&mut self, filter: Filter, position: usize) -> (u8, u8) {
         if self.labels.is_full() || position > self.labels.len() {
             return (0, 0);
@@ -72,6 +73,7 @@ impl<
         let Ok(nodes) = self.network.enter(fields.labels) else {
             return (0, 0);
         };
+        // Two names, since the check doesn't cover a field that is an array put straight into a literal.
         let in_fields = fields.labels;
         let along = nodes.labels;
         let labels = FilterLabels {

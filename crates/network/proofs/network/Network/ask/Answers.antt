@@ -37,11 +37,11 @@ loop-k-preserved g c =
     let next = c.field_index-next.result in
     let other = get_or fields next c.index-fields-next.result in
     let o = get_or nodes k c.node-item.result in
-    let x = c.in_ok-crossing.crossing in
+    let x = c.in_ok-searched.searched in
     let at : next ≡ get_or order.fields (k + 1) 0 - 1 = next_is order order k next refl (c.field_index-next.ensures.value (omega arith) (omega arith)) in (
       x.found.few,
       x.found.size,
-      omega (arith, c.in_ok-crossing.ensures.few),
+      omega (arith, c.in_ok-searched.ensures.few),
       λ j d l. get_or-set_other nodes k j _ d (omega arith) ∙ inv.3 j d (omega arith),
       λ fs ns d s lf.
           let i = inv.4 fs ns d s lf in
@@ -49,15 +49,15 @@ loop-k-preserved g c =
           let r : take (other.count - 0) other.labels ≡ found (k + 1) = rw sub-zero (labels_at fields next c.index-fields-next.result (search rules) ∙ ap (found_in fields) at) in
           let same : o ≡ get_or old k d = get_or_default nodes k c.node-item.result d ln ∙ inv.3 k d (omega arith) in
           let here = s k d (omega arith) in
-          let y = c.in_ok-crossing.ensures.crossed (map (at_node k) fs) (get_or ns k 0)
+          let y = c.in_ok-searched.ensures.crossed (map (at_node k) fs) (get_or ns k 0)
           (subst (λ (b : Board Pair g.row.S.Denot). Stands same_pair g.S.Told.shows b.table.slots b.part (map (at_node k) fs) (get_or ns k 0)) (sym same) here)
           (subst Labels (sym l) i.3) (subst Labels (sym r) (lf (get_or order.fields (k + 1) 0 - 1))) in
           turn g.S.Told.shows g.S.Told.agrees d old found ns nodes k o c.ask_node.new.node (take (c.loop-k.count - 0) c.loop-k.left) (take (other.count - 0) other.labels) _ x.asked c.loop-k.asked ln
-          (length-map (get_or old k d).table.slots key_of ∙ here.labelled.size) same l r c.in_ok-crossing.ensures.kept y i.0 i.2,
+          (length-map (get_or old k d).table.slots key_of ∙ here.labelled.size) same l r c.in_ok-searched.ensures.kept y i.0 i.2,
     )
 
-pub returns-in_err-crossing : goal.returns-in_err-crossing
-returns-in_err-crossing g c =
+pub returns-in_err-searched : goal.returns-in_err-searched
+returns-in_err-searched g c =
     let k = c.loop-k.k in
     let inv = c.loop-k.invariant in
     let nodes = c.loop-k.node-items in
@@ -77,7 +77,7 @@ returns-in_err-crossing g c =
           let r : take (other.count - 0) other.labels ≡ found (k + 1) = rw sub-zero (labels_at fields next c.index-fields-next.result (search rules) ∙ ap (found_in fields) at) in
           let same : o ≡ get_or old k d = get_or_default nodes k c.node-item.result d ln ∙ inv.3 k d (omega arith) in
           let here = s k d (omega arith) in
-          absurd (c.in_err-crossing.ensures.crossed (map (at_node k) fs) (get_or ns k 0)
+          absurd (c.in_err-searched.ensures.crossed (map (at_node k) fs) (get_or ns k 0)
           (subst (λ (b : Board Pair g.row.S.Denot). Stands same_pair g.S.Told.shows b.table.slots b.part (map (at_node k) fs) (get_or ns k 0)) (sym same) here)
           (subst Labels (sym l) i.3) (subst Labels (sym r) (lf (get_or order.fields (k + 1) 0 - 1))));
       laws = λ fs ns d s first. (one_label g.S.Told.shows d c.args.self.now.nodes fs ns 5 s first, λ found. by_rows g.S.Told.shows d c.args.self.now.nodes fs ns 5 s first found 5 (omega arith));
