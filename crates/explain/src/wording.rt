@@ -24,6 +24,12 @@ pub struct Said {
     pub text: String,
 }
 
+impl Said {
+    fn new(outcome: Outcome, text: String) -> Said {
+        Said { outcome, text }
+    }
+}
+
 // What is said of a question.
 pub fn explanation(heap: Global, question: Question) -> Result<Said, AllocError> {
     match question {
@@ -40,21 +46,30 @@ pub fn unreadable(heap: Global) -> Result<Said, AllocError> {
     of_fault(heap, Fault::Line)
 }
 
-// A sentence names the parts of its row again, so that a `Display` of rows would stand for one placeholder in each.
+// A sentence names the parts of its row once more, so that a Display of rows would spare one placeholder in each.
 fn of_prefix(heap: Global, row: PrefixRow, number: u32) -> Result<Said, AllocError> {
     let address = row.address;
     let length = row.length;
     match why::prefix(row, number) {
         Err(fault) => of_fault(heap, fault),
-        Ok(None) if length == 0 => taken(format!(in heap;
-            "prefix {address:08X}/0 takes {number:08X}: length 0 takes every address"
-        )?),
-        Ok(None) => taken(format!(in heap;
-            "prefix {address:08X}/{length} takes {number:08X}: bits 1 to {length} agree"
-        )?),
-        Ok(Some(bit)) => not_taken(format!(in heap;
-            "prefix {address:08X}/{length} does not take {number:08X}: bit {bit} is the first that differs"
-        )?),
+        Ok(None) if length == 0 => Ok(Said::new(
+            Outcome::Taken,
+            format!(in heap;
+                "prefix {address:08X}/0 takes {number:08X}: length 0 takes every address"
+            )?,
+        )),
+        Ok(None) => Ok(Said::new(
+            Outcome::Taken,
+            format!(in heap;
+                "prefix {address:08X}/{length} takes {number:08X}: bits 1 to {length} agree"
+            )?,
+        )),
+        Ok(Some(bit)) => Ok(Said::new(
+            Outcome::NotTaken,
+            format!(in heap;
+                "prefix {address:08X}/{length} does not take {number:08X}: bit {bit} is the first that differs"
+            )?,
+        )),
     }
 }
 
@@ -63,15 +78,22 @@ fn of_range(heap: Global, row: RangeRow, number: u16) -> Result<Said, AllocError
     let high = row.high;
     match why::range(row, number) {
         Err(fault) => of_fault(heap, fault),
-        Ok(None) => taken(format!(in heap;
-            "range {low}:{high} takes {number}: it lies between the ends"
-        )?),
-        Ok(Some(Side::Beneath)) => not_taken(format!(in heap;
-            "range {low}:{high} does not take {number}: it is below the low end {low}"
-        )?),
-        Ok(Some(Side::Above)) => not_taken(format!(in heap;
-            "range {low}:{high} does not take {number}: it is above the high end {high}"
-        )?),
+        Ok(None) => Ok(Said::new(
+            Outcome::Taken,
+            format!(in heap; "range {low}:{high} takes {number}: it lies between the ends")?,
+        )),
+        Ok(Some(Side::Beneath)) => Ok(Said::new(
+            Outcome::NotTaken,
+            format!(in heap;
+                "range {low}:{high} does not take {number}: it is below the low end {low}"
+            )?,
+        )),
+        Ok(Some(Side::Above)) => Ok(Said::new(
+            Outcome::NotTaken,
+            format!(in heap;
+                "range {low}:{high} does not take {number}: it is above the high end {high}"
+            )?,
+        )),
     }
 }
 
@@ -79,16 +101,19 @@ fn of_protocol(heap: Global, row: ProtocolRow, number: u8) -> Result<Said, Alloc
     match why::protocol(row, number) {
         Err(fault) => of_fault(heap, fault),
         Ok(None) => match row {
-            ProtocolRow::Any => taken(format!(in heap;
-                "protocol * takes {number}: it takes any number"
-            )?),
-            ProtocolRow::Only(only) => taken(format!(in heap;
-                "protocol {only} takes {number}: it is the same number"
-            )?),
+            ProtocolRow::Any => Ok(Said::new(
+                Outcome::Taken,
+                format!(in heap; "protocol * takes {number}: it takes any number")?,
+            )),
+            ProtocolRow::Only(only) => Ok(Said::new(
+                Outcome::Taken,
+                format!(in heap; "protocol {only} takes {number}: it is the same number")?,
+            )),
         },
-        Ok(Some(only)) => not_taken(format!(in heap;
-            "protocol {only} does not take {number}: it takes {only} alone"
-        )?),
+        Ok(Some(only)) => Ok(Said::new(
+            Outcome::NotTaken,
+            format!(in heap; "protocol {only} does not take {number}: it takes {only} alone")?,
+        )),
     }
 }
 
@@ -97,12 +122,18 @@ fn of_flags(heap: Global, row: FlagRow, number: u8) -> Result<Said, AllocError> 
     let wanted = row.wanted;
     match why::flags(row, number) {
         Err(fault) => of_fault(heap, fault),
-        Ok(None) => taken(format!(in heap;
-            "flags {mask:02X}={wanted:02X} takes {number:02X}: every bit of the mask is as wanted"
-        )?),
-        Ok(Some(bits)) => not_taken(format!(in heap;
-            "flags {mask:02X}={wanted:02X} does not take {number:02X}: bits {bits:02X} differ"
-        )?),
+        Ok(None) => Ok(Said::new(
+            Outcome::Taken,
+            format!(in heap;
+                "flags {mask:02X}={wanted:02X} takes {number:02X}: every bit of the mask is as wanted"
+            )?,
+        )),
+        Ok(Some(bits)) => Ok(Said::new(
+            Outcome::NotTaken,
+            format!(in heap;
+                "flags {mask:02X}={wanted:02X} does not take {number:02X}: bits {bits:02X} differ"
+            )?,
+        )),
     }
 }
 
@@ -110,22 +141,23 @@ fn of_order(heap: Global, fields: [u8; FIELDS]) -> Result<Said, AllocError> {
     let [a, b, c, d, e, f] = fields;
     match NetworkOrder::form(fields) {
         Err(fault) => of_fault(heap, fault),
-        Ok(_) => taken(format!(in heap;
-            "order {a} {b} {c} {d} {e} {f} is formed: it names each field once"
-        )?),
+        Ok(_) => Ok(Said::new(
+            Outcome::Taken,
+            format!(in heap; "order {a} {b} {c} {d} {e} {f} is formed: it names each field once")?,
+        )),
     }
 }
 
 fn of_fault(heap: Global, fault: Fault) -> Result<Said, AllocError> {
-    Ok(Said {
-        outcome: Outcome::Refused,
-        text: format!(in heap;
+    Ok(Said::new(
+        Outcome::Refused,
+        format!(in heap;
             "refused with {}, detail {}: {}",
             fault.number(),
             fault.detail(),
             reason(fault)
         )?,
-    })
+    ))
 }
 
 fn reason(fault: Fault) -> &'static str {
@@ -138,18 +170,4 @@ fn reason(fault: Fault) -> &'static str {
         Fault::Order(_) => "that position of the order names no field or repeats one",
         _ => "no value is formed",
     }
-}
-
-fn taken(text: String) -> Result<Said, AllocError> {
-    Ok(Said {
-        outcome: Outcome::Taken,
-        text,
-    })
-}
-
-fn not_taken(text: String) -> Result<Said, AllocError> {
-    Ok(Said {
-        outcome: Outcome::NotTaken,
-        text,
-    })
 }

@@ -24,9 +24,9 @@ mod tests {
     use words::decimals::{read_u8, read_u16};
     use words::hexadecimals::{read_address, read_flags};
 
-    // 0 where there is no fault, else its number and detail
-    fn told(fault: Option<Fault>) -> (u8, u32) {
-        fault.map_or((0, 0), |fault| (fault.number(), fault.detail()))
+    // The number and the detail of a fault, if there is one.
+    fn told(fault: Option<Fault>) -> Option<(u8, u32)> {
+        fault.map(|fault| (fault.number(), fault.detail()))
     }
 
     fn prefix_fault(address: u32, length: u8) -> Option<Fault> {
@@ -36,19 +36,22 @@ mod tests {
     #[test]
     fn prefix_lengths(rt: HostRuntime) {
         let rows = [
-            (0, 0, 0),
-            (0x8000_0000, 1, 0),
-            (0xC0A8_0100, 31, 0),
-            (0xC0A8_0101, 32, 0),
-            (0, 33, 3),
-            (0, 255, 3),
-            (1, 31, 3),
-            (0x4000_0000, 1, 3),
+            (0, 0, None),
+            (0x8000_0000, 1, None),
+            (0xC0A8_0100, 31, None),
+            (0xC0A8_0101, 32, None),
+            (0, 33, Some(3)),
+            (0, 255, Some(3)),
+            (1, 31, Some(3)),
+            (0x4000_0000, 1, Some(3)),
         ];
         for (address, length, number) in rows {
-            assert_eq!(rt; told(prefix_fault(address, length)).0, number);
+            assert_eq!(rt;
+                told(prefix_fault(address, length)).map(|told| told.0),
+                number
+            );
         }
-        assert_eq!(rt; told(prefix_fault(0x0A00_0001, 8)), (3, 8));
+        assert_eq!(rt; told(prefix_fault(0x0A00_0001, 8)), Some((3, 8)));
     }
 
     #[test]
@@ -69,7 +72,7 @@ mod tests {
         }
         assert_eq!(rt;
             told(PortRange::form(RangeRow { low: 6, high: 5 }).err()),
-            (4, 6)
+            Some((4, 6))
         );
         Ok(())
     }
@@ -91,7 +94,7 @@ mod tests {
         }
         assert_eq!(rt;
             told(FlagMask::form(FlagRow { mask: 1, wanted: 2 }).err()),
-            (5, 1)
+            Some((5, 1))
         );
         Ok(())
     }
@@ -99,15 +102,18 @@ mod tests {
     #[test]
     fn orders(rt: HostRuntime) {
         let rows = [
-            ([1, 2, 3, 4, 5, 6], 0),
-            ([6, 5, 4, 3, 2, 1], 0),
-            ([1, 2, 3, 4, 5, 5], 6),
-            ([1, 1, 3, 4, 5, 6], 2),
-            ([0, 2, 3, 4, 5, 6], 1),
-            ([1, 2, 3, 7, 5, 6], 4),
+            ([1, 2, 3, 4, 5, 6], None),
+            ([6, 5, 4, 3, 2, 1], None),
+            ([1, 2, 3, 4, 5, 5], Some(6)),
+            ([1, 1, 3, 4, 5, 6], Some(2)),
+            ([0, 2, 3, 4, 5, 6], Some(1)),
+            ([1, 2, 3, 7, 5, 6], Some(4)),
         ];
         for (fields, position) in rows {
-            assert_eq!(rt; told(NetworkOrder::form(fields).err()).1, position);
+            assert_eq!(rt;
+                told(NetworkOrder::form(fields).err()).map(|told| told.1),
+                position
+            );
         }
     }
 

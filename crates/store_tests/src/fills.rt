@@ -36,10 +36,9 @@ fn look<S: Store>(rt: &impl Abort, store: &mut S) -> Result<(), Fail> {
 
 // Clears every place, the fifth after the one before, and answers what it held.
 fn drain<S: Store>(rt: &impl Abort, store: &mut S) -> Result<(), Fail> {
-    let mut place = 0;
-    for _ in 0..96 {
+    for turn in 0..96u32 {
+        let place = (turn * 5 % 96) as u8;
         assert_eq!(rt; store.clear(place)?, pair_at(place));
-        place = (place % 96 + 5) % 96;
     }
     Ok(())
 }

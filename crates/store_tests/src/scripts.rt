@@ -48,10 +48,7 @@ const ANSWERS: [Reply; 12] = [
 ];
 
 fn answers_are(rt: &impl Abort, replies: &[Reply]) {
-    assert_eq!(rt; replies.len(), 12);
-    for (reply, wanted) in replies.iter().zip(ANSWERS.iter()) {
-        assert_eq!(rt; *reply, *wanted);
-    }
+    assert_eq!(rt; replies, &ANSWERS[..]);
 }
 
 #[test]

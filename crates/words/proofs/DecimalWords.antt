@@ -29,24 +29,24 @@ value_front ds i =
 pub digit_value : (b : ℕ) → 48 ≤ b → b ≤ 57 → digitValue b ≡ b - 48
 digit_value b low high = grind (arith, nat_tests)
 
-module _ (largest : ℕ) (small : largest < 2 ^ 16) (word : List ℕ) where
+module _ (word : List ℕ) where
   abbrev WordReads : Option ℕ → Type 0
-  WordReads r = Reads decimal (λ n. n ≤ largest) word r
+  WordReads r = Reads decimal (λ n. n < 2 ^ 16) word r
 
-  pub read_decimal : AllDigits 10 word → 0 < length word → (get_or word 0 0 ≡ 48 → length word ≡ 1) → digits_value 10 word ≤ largest → WordReads (Some (digits_value 10 word))
+  pub read_decimal : AllDigits 10 word → 0 < length word → (get_or word 0 0 ≡ 48 → length word ≡ 1) → digits_value 10 word < 2 ^ 16 → WordReads (Some (digits_value 10 word))
   read_decimal digits some zero fits = record {
     back = λ v e. let w : digits_value 10 word ≡ v = cc in (omega arith, sym (decimal-digits_value numerals word digits some zero (omega arith)) ∙ ap decimal w);
     every = λ v f e. ap Some (ap (digits_value 10) e ∙ (decimal_is_IsNumeral v (omega arith)).1);
   }
 
-  pub none_read : ((n : ℕ) → n ≤ largest → word ≡ decimal n → ⊥) → WordReads None
+  pub none_read : ((n : ℕ) → n < 2 ^ 16 → word ≡ decimal n → ⊥) → WordReads None
   none_read h = record {
     back = λ v e. absurd (let z : ◌≡◌ {A = ℕ} 0 1 = cc in omega arith);
     every = λ v f e. absurd (h v f e);
   }
 
   -- a byte that is no digit, or a digit too many
-  pub stuck_read : (i n : ℕ) → i < length word → n ≡ digits_value 10 (take i word) → ((48 ≤ get_or word i 0) × (get_or word i 0 ≤ 57) × (n * 10 + (get_or word i 0 - 48) ≤ largest) → ⊥) → WordReads None
+  pub stuck_read : (i n : ℕ) → i < length word → n ≡ digits_value 10 (take i word) → ((48 ≤ get_or word i 0) × (get_or word i 0 ≤ 57) × (n * 10 + (get_or word i 0 - 48) < 2 ^ 16) → ⊥) → WordReads None
   stuck_read i n l e stuck =
       none_read (λ v f is.
       let r = decimal_is_IsNumeral v (omega arith) in
@@ -80,10 +80,3 @@ pub decimal_free : (separator : ℕ) → (IsInRange 48 57 separator → ⊥) →
 decimal_free separator other n small =
     let r = decimal_is_IsNumeral n (omega arith) in
     All-from_get_or (λ b. b ≡ separator → ⊥) (decimal n) 0 (λ i l e. other (subst (IsInRange 48 57) e (digit_at (decimal n) i r.0.1 l)))
-
--- at most 255 and below 2 ^ 8 are one bound
-pub byte_read : (word : List ℕ) (r : Option ℕ) → Reads decimal (λ n. n ≤ 255) word r → Reads decimal (λ n. n < 2 ^ 8) word r
-byte_read word r h = record {
-  back = λ v e. let b = h.back v e in (omega (arith, b.0), b.1);
-  every = λ v f e. h.every v (omega arith) e;
-}

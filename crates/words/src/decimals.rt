@@ -6,25 +6,18 @@ ghost use Rattle.words.specs.Reading.{Reads};
 pub fn read_u8(word: &[u8]) -> Option<u8>
     ensures { Reads decimal (λ n. n < 2 ^ 8) word.now result }
 {
-    let n = read_up_to(word, u8::MAX as u16)?;
-    Some(n as u8)
+    u8::try_from(read_u16(word)?).ok()
 }
 
 pub fn read_u16(word: &[u8]) -> Option<u16>
     ensures { Reads decimal (λ n. n < 2 ^ 16) word.now result }
-{
-    read_up_to(word, u16::MAX)
-}
-
-fn read_up_to(word: &[u8], largest: u16) -> Option<u16>
-    ensures { Reads decimal (λ n. n ≤ largest) word.now result }
 {
     if !begins_decimal(word) {
         return None;
     }
     let mut number = 0;
     for byte in word {
-        number = next_digit(number, *byte, largest)?;
+        number = next_digit(number, *byte)?;
     }
     Some(number)
 }
@@ -39,15 +32,12 @@ fn begins_decimal(word: &[u8]) -> bool
     word[0] != b'0' || word.len() == 1
 }
 
-// The number with one digit more; none where the byte is no digit or the number would pass the largest.
-fn next_digit(number: u16, byte: u8, largest: u16) -> Option<u16>
-    ensures { SomeIff result ((48 ≤ byte) × (byte ≤ 57) × (number * 10 + (byte - 48) ≤ largest)) (number * 10 + (byte - 48)) }
+// The number with one digit more; none where the byte is no digit or the number would pass 65,535.
+fn next_digit(number: u16, byte: u8) -> Option<u16>
+    ensures { SomeIff result ((48 ≤ byte) × (byte ≤ 57) × (number * 10 + (byte - 48) < 2 ^ 16)) (number * 10 + (byte - 48)) }
 {
-    let more = number as u32 * 10;
     match byte {
-        b'0'..=b'9' if more + (byte - b'0') as u32 <= largest as u32 => Some(
-            (more + (byte - b'0') as u32) as u16,
-        ),
+        b'0'..=b'9' => number.checked_mul(10)?.checked_add((byte - b'0') as u16),
         _ => None,
     }
 }

@@ -1,15 +1,14 @@
-use Rattle.std.proofs.Common.{◌≡◌, ℕ, ◌^◌, ◌<◌, ◌≤◌, take, Some, decimal, sym, ap, ◌∙◌, subst, arith}
+use Rattle.std.proofs.Common.{◌≡◌, ℕ, ◌^◌, ◌<◌, take, Some, decimal, sym, ap, ◌∙◌, subst, arith}
 use Rattle.std.specs.Str.Parse.{digits_value, AllDigits}
 use Rattle.std.proofs.lemmas.List.{take_all}
 use Rattle.words.specs.Reading.{Reads}
 use Rattle.words.proofs.DecimalWords.{read_decimal, stuck_read, digits_turn}
-use Rattle.words.proofs.decimals.read_up_to.Goals as goal
+use Rattle.words.proofs.decimals.read_u16.Goals as goal
 
 pub returns-in_err-number : goal.returns-in_err-number
 returns-in_err-number c =
-    let small : c.args.largest < 2 ^ 16 = omega arith in
     rw c.from_residual.ensures
-    (stuck_read c.args.largest small c.args.word.now c.loop-byte.byte-index c.loop-byte.number c.loop-byte-test.true c.loop-byte.invariant.1 c.in_err-number.ensures)
+    (stuck_read c.args.word.now c.loop-byte.byte-index c.loop-byte.number c.loop-byte-test.true c.loop-byte.invariant.1 c.in_err-number.ensures)
 
 pub loop-byte-preserved : goal.loop-byte-preserved
 loop-byte-preserved c =
@@ -19,10 +18,9 @@ loop-byte-preserved c =
 
 pub returns : goal.returns
 returns c =
-    let small : c.args.largest < 2 ^ 16 = omega arith in
     let word = c.args.word.now in
     let all : take c.loop-byte.byte-index word ≡ word = take_all c.loop-byte.byte-index word c.loop-byte-test.false in
     let is : c.loop-byte.number ≡ digits_value 10 word = c.loop-byte.invariant.1 ∙ ap (digits_value 10) all in
     let begins = c.if-not-begins_decimal.ensures in
-    subst (λ (n : ℕ). Reads decimal (λ m. m ≤ c.args.largest) word (Some n)) (sym is)
-    (read_decimal c.args.largest small word (subst (AllDigits 10) all c.loop-byte.invariant.0) begins.0 begins.1 (omega (arith, c.loop-byte.invariant.2)))
+    subst (λ (n : ℕ). Reads decimal (λ m. m < 2 ^ 16) word (Some n)) (sym is)
+    (read_decimal word (subst (AllDigits 10) all c.loop-byte.invariant.0) begins.0 begins.1 (omega (arith, c.loop-byte.invariant.2)))

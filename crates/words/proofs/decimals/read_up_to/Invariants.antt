@@ -1,6 +1,0 @@
-use Rattle.std.proofs.Common.{◌≡◌, ◌≤◌, take}
-use Rattle.std.specs.Str.Parse.{digits_value, AllDigits}
-use Rattle.words.proofs.decimals.read_up_to.Given as goal
-
-abbrev pub invariant-loop-byte : goal.invariant-loop-byte
-invariant-loop-byte l = AllDigits 10 (take l.byte-index l.word) × (l.number ≡ digits_value 10 (take l.byte-index l.word)) × (l.number ≤ l.largest)
