@@ -34,6 +34,7 @@ pub fn perform<V: Kind, E: Engine<V>>(engine: &mut E, call: Call<V>) -> Answer<V
 
 // Empties an engine, performs the calls, and answers what each answered.
 // Want of memory ends the run early: then only a first part of the calls was performed.
+// store_runs has the same few lines over other calls and answers; a trait of calls with its laws would be longer than both.
 pub fn run<V: Kind, E: Engine<V>>(
     heap: Global,
     engine: &mut E,
@@ -46,7 +47,7 @@ pub fn run<V: Kind, E: Engine<V>>(
 {
     engine.empty();
     let mut answers = Vec::new(heap);
-    // a loop: where memory gives out, nothing would be known of an engine that the closure of a chain changes
+    // A loop, since after a chain whose closure changes the engine little is known of the engine without a lemma.
     for call in calls {
         answers.push(perform(engine, *call))?;
     }

@@ -5,11 +5,13 @@
 mod tests {
     use engines::direct::Direct;
     use engines::engine::Engine;
-    use engines::rows::{RowTable, Rows, check_rows};
+    use engines::rows::{RowTable, Rows};
     use engines::scan::Scan;
     use fields::kinds::Kind;
     use fields::protocols::{Protocol, ProtocolRow};
     use fields::ranges::{PortRange, RangeRow};
+    use parts::checks::check_room;
+    use parts::marks::PLACES;
     use parts::told::Told;
     use std::process::Abort;
     use std::test::Fail;
@@ -30,11 +32,11 @@ mod tests {
     // Sets the number of each place at it, and finds it there alone.
     fn fills<E: Engine<Protocol>>(rt: &impl Abort, engine: &mut E) -> Result<(), Fail> {
         engine.empty();
-        for place in 0..96u8 {
-            let value = <Protocol as Kind>::form(ProtocolRow::Only(place))?;
+        for place in 0..PLACES as u8 {
+            let value = Protocol::form(ProtocolRow::Only(place))?;
             engine.set(place, value)?;
         }
-        for place in 0..96u8 {
+        for place in 0..PLACES as u8 {
             finds(rt, engine, place as u32, place)?;
         }
         let mut list = [0; 96];
@@ -68,8 +70,8 @@ mod tests {
     // Nested ranges, all of them satisfied by the number in their middle.
     fn nests<E: Engine<PortRange>>(rt: &impl Abort, engine: &mut E) -> Result<(), Fail> {
         engine.empty();
-        for place in 0..96u8 {
-            let value = <PortRange as Kind>::form(RangeRow {
+        for place in 0..PLACES as u8 {
+            let value = PortRange::form(RangeRow {
                 low: 100 - place as u16,
                 high: 100 + place as u16,
             })?;
@@ -97,8 +99,8 @@ mod tests {
     #[test]
     fn short_tables(rt: HostRuntime) {
         let rows = [ProtocolRow::Any; 97];
-        assert!(rt; check_rows(&rows[0..95]).is_err());
-        assert!(rt; check_rows(&rows[0..96]).is_ok());
-        assert!(rt; check_rows(&rows).is_ok());
+        assert!(rt; check_room(&rows[0..95]).is_err());
+        assert!(rt; check_room(&rows[0..96]).is_ok());
+        assert!(rt; check_room(&rows).is_ok());
     }
 }

@@ -31,7 +31,7 @@ fn tour<T: Rows<ProtocolRow> + Drop>(
     let mut scan = Scan::over(table);
     let mut direct = Direct::new();
     let both = run_both(rt.alloc(), &mut scan, &mut direct, calls)?;
-    for answer in both.first.iter() {
+    for answer in &both.first {
         println!(rt; "{}", Shown(*answer))?;
     }
     println!(rt; "asked {}", scan.asked_number())?;

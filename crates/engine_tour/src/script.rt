@@ -26,7 +26,7 @@ fn read_value(word: &str) -> Option<Protocol> {
         "any" => ProtocolRow::Any,
         number => ProtocolRow::Only(number.parse().ok()?),
     };
-    <Protocol as Kind>::form(row).ok()
+    Protocol::form(row).ok()
 }
 
 // An answer as the text of one line; a refusal by its number and detail.

@@ -11,6 +11,7 @@ use parts::told::Told;
 
 pub trait Engine<V: Kind>: Told<V, Asked = u32> {
     // Writes the labels of all values that the number satisfies, rising, from the start of the list, and answers how many.
+    // The list is the caller's, as a list that is too short is refused.
     fn matches(&mut self, number: u32, list: &mut [u8]) -> Result<usize, Fault>
         ensures result { (m : Meaning V) → Self.Told.shows self.old m → result ≡ answer (list_fault (length list.old)) (length (labels_of (λ v. V.Kind.satisfied v number) m.places)) }
         ensures written { (m : Meaning V) → Self.Told.shows self.old m → list.new ≡ unless (list_fault (length list.old)) list.old (over_start (labels_of (λ v. V.Kind.satisfied v number) m.places) list.old) }

@@ -4,9 +4,10 @@ ghost use Rattle.fields.specs.Faults.{answer, answer_by};
 ghost use Rattle.parts.specs.Meaning.{list_fault};
 
 use fields::faults::Fault;
-use parts::checks::check_room;
+use parts::checks::{check_room, put_at};
 
 // What an engine wants of a table: at least 96 rows, to be read and put.
+// A trait, since a struct with a `&mut` slice beside other fields is not covered when it is handed on whole.
 pub trait Rows<R: Copy> {
     // all rows, also those past the 96th
     ghost items: { Self → List R };
@@ -27,19 +28,12 @@ pub struct RowTable<'a, R: Copy> {
     ghost wide: { 96 ≤ length rows.now },
 }
 
-// Whether rows are enough for a table.
-pub fn check_rows<R: Copy>(rows: &[R]) -> Result<(), Fault>
-    ensures { result ≡ answer (list_fault (length rows.now)) tt }
-{
-    check_room(rows)
-}
-
 impl<'a, R: Copy> RowTable<'a, R> {
     // The table of exactly these rows, as they are.
     pub fn form(rows: &'a mut [R]) -> Result<RowTable<'a, R>, Fault>
         ensures { answer_by (λ t. t.rows.now) result ≡ answer (list_fault (length rows.old)) rows.old }
     {
-        check_rows(rows)?;
+        check_room(rows)?;
         Ok(RowTable { rows })
     }
 }
@@ -54,8 +48,6 @@ impl<'a, R: Copy> Rows<R> for RowTable<'a, R> {
     }
 
     fn put(&mut self, place: usize, row: R) {
-        if place < self.rows.len() {
-            self.rows[place] = row;
-        }
+        put_at(self.rows, place, row);
     }
 }

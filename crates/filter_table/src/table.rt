@@ -1,4 +1,4 @@
-// The filter list as a table: the standing filters in rank order, in the first rows.
+// The filter list as a table: the standing filters in rank order, each a row.
 ghost use Rattle.std.specs.Prelude.{◌≡◌, true};
 ghost use Rattle.filters.specs.Counting.{every};
 ghost use Rattle.filters.specs.Filters.{lawful};

@@ -50,7 +50,7 @@ impl FilterRow {
         (self.tag, self.identifier) < (other.tag, other.identifier)
     }
 
-    // Whether the two filters have the same value in every field.
+    // Whether the two filters have the same value in every field. Not the whole row is compared, so no derive.
     pub fn same_values(&self, other: &FilterRow) -> bool
         ensures { result ≡ same_values self.now other.now }
     {

@@ -15,7 +15,7 @@ pub fn entry_at<T: Copy>(list: &[Option<T>], index: usize) -> Option<T>
 }
 
 // Writes at an index; past the end this changes nothing.
-pub fn put_at<T: Copy>(list: &mut [Option<T>], index: usize, value: Option<T>)
+pub fn put_at<T: Copy>(list: &mut [T], index: usize, value: T)
     ensures { list.new ≡ slice_set list.old index value }
 {
     if index < list.len() {
@@ -36,7 +36,10 @@ pub fn check_labels(labels: &[u8]) -> Result<(), Fault>
 fn first_beyond(labels: &[u8]) -> Option<u8>
     ensures { result ≡ find (λ l. nat_lt 95 l) labels.now }
 {
-    labels.iter().copied().find(|label| *label > 95)
+    labels
+        .iter()
+        .copied()
+        .find(|label| *label as usize >= PLACES)
 }
 
 // Whether a value that names these labels may be set at a place that holds `held`, when the part found the value at `found`.
@@ -63,10 +66,7 @@ pub fn check_set<V: Copy>(
 pub fn check_clear<V: Copy>(place: u8, held: Option<V>) -> Result<V, Fault>
     ensures { result ≡ taken_from place held }
 {
-    if place as usize >= PLACES {
-        return Err(Fault::Label(place));
-    }
-    held.ok_or(Fault::Vacant(place))
+    check_labels(&[place]).and(held.ok_or(Fault::Vacant(place)))
 }
 
 // Whether a list has room for the labels of all places, or a table a row for each.

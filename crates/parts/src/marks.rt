@@ -4,7 +4,7 @@ ghost use Rattle.fields.specs.Faults.{answer, unless};
 ghost use Rattle.parts.specs.Meaning.{list_fault};
 ghost use Rattle.parts.specs.Marks.{mark_found, marked, over_start, ListsMarked};
 
-use crate::checks::check_room;
+use crate::checks::{check_room, put_at};
 use fields::faults::Fault;
 
 // How many places a part has.
@@ -14,11 +14,8 @@ pub const PLACES: usize = 96;
 pub fn mark(marks: &mut [bool; PLACES], found: Option<u8>)
     ensures { marks.new ≡ mark_found marks.old found }
 {
-    let Some(label) = found else {
-        return;
-    };
-    if (label as usize) < PLACES {
-        marks[label as usize] = true;
+    if let Some(label) = found {
+        put_at(marks, label as usize, true);
     }
 }
 
@@ -30,6 +27,7 @@ pub fn write_marked(marks: &[bool; PLACES], list: &mut [u8]) -> Result<usize, Fa
     ensures few { IfOk result (λ n. n ≤ 96) }
 {
     check_room(list)?;
+    // Counted by hand: of what is written through an adapter of iter_mut a contract says nothing.
     let mut count = 0;
     for (label, marked) in marks.iter().enumerate() {
         if *marked {

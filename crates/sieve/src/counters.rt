@@ -25,7 +25,7 @@ fn unless_in(counter: u16, earlier: &[u16]) -> Option<u16>
     (!earlier.contains(&counter)).then_some(counter)
 }
 
-// The counters that a pair touches, each once.
+// The counters that a pair touches: four places, some empty, since nothing is allocated and each counter stands once.
 pub fn touched(pair: Pair) -> [Option<u16>; 4]
     ensures slots { result ≡ slots_of pair }
     ensures each { (i : ℕ) → has i (touched_by pair) ≡ has i (spread_of pair) }

@@ -41,6 +41,7 @@ impl<S: Store> Sieve<S> {
     }
 
     // How often the sieve was asked since it was emptied, modulo 2^32; the store below counts for itself what it is asked.
+    // Each part counts its own questions; a method of `Told` would leave open at a scan engine for which kind of value.
     pub fn asked_number(&self) -> u32
         ensures value { result ≡ self.now.asked }
         ensures counts { (m : Meaning Pair) → Shows S.Told.shows self.now m → result ≡ m.asked }
@@ -61,6 +62,7 @@ impl<S: Store> Sieve<S> {
     }
 
     // The label of a pair. The store below is asked exactly if the pair passes, and is else the same value as before.
+    // It is `find` with more promises than the trait has words for.
     pub fn sift(&mut self, left: u8, right: u8) -> Result<Option<u8>, Fault>
         ensures result { (m : Meaning Pair) → Shows S.Told.shows self.old m → result ≡ answer (label_fault (left ∷ right ∷ [])) (label_of same_pair m.places (pair left right)) }
         ensures held { (m : Meaning Pair) → Shows S.Told.shows self.old m → Shows S.Told.shows self.new (unless (label_fault (left ∷ right ∷ [])) m (asked_once m)) }
@@ -72,11 +74,11 @@ impl<S: Store> Sieve<S> {
         ensures questioned { OnOk result ((l : List Pair) → S.Told.agrees self.old.below l → S.Told.agrees self.new.below (l ++ questions self.old.counters (pair left right))) }
         ensures counters { self.new.counters ≡ self.old.counters }
     {
-        if !self.passes(left, right)? {
-            self.asked = self.asked.wrapping_add(1);
-            return Ok(None);
-        }
-        let found = self.below.find(left, right)?;
+        let found = if self.passes(left, right)? {
+            self.below.find(left, right)?
+        } else {
+            None
+        };
         self.asked = self.asked.wrapping_add(1);
         Ok(found)
     }

@@ -22,6 +22,7 @@ pub fn perform<S: Store>(store: &mut S, call: StoreCall) -> Reply
 }
 
 // Empties a store and performs a list of calls on it. The answers come from the calls alone.
+// engine_runs has the same few lines over other calls and answers; a trait of calls with its laws would be longer than both.
 pub fn run<S: Store>(
     heap: Global,
     store: &mut S,
@@ -32,7 +33,7 @@ pub fn run<S: Store>(
 {
     store.empty();
     let mut replies = Vec::new(heap);
-    // A loop, since after a chain whose closure changes the store nothing is known of the store.
+    // A loop, since after a chain whose closure changes the store little is known of the store without a lemma.
     for call in calls {
         let reply = perform(store, *call);
         replies.push(reply)?;

@@ -84,7 +84,7 @@ impl<K: ChainKey> IndexedStore<ChainIndex<K>> {
         })
     }
 
-    // The label of a pair, found by walking the chain of the pair's key and no other.
+    // The label of a pair. It is `look_up` with one promise more: that no other chain than the one of the pair's key is walked.
     pub fn walk(&self, pair: Pair) -> Option<u8>
         ensures walked { (m : Meaning Pair) → Shows (ChainLeads K.ChainKey.key) self.now m → Walked K.ChainKey.key self.now.index.chains m.places pair result }
         ensures found { (m : Meaning Pair) → Shows (ChainLeads K.ChainKey.key) self.now m → result ≡ label_of same_pair m.places pair }

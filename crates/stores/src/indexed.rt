@@ -37,6 +37,7 @@ impl<I: Index> IndexedStore<I> {
     }
 
     // How often it was asked since it was emptied, modulo 2^32.
+    // Each part counts its own questions; a method of `Told` would leave open at a scan engine for which kind of value.
     pub fn asked_number(&self) -> u32
         ensures value { result ≡ self.now.asked }
         ensures counts { (m : Meaning Pair) → Shows I.Index.leads self.now m → result ≡ m.asked }

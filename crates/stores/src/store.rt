@@ -12,6 +12,7 @@ use parts::told::Told;
 
 pub trait Store: Told<Pair, Asked = Pair> {
     // The label of a pair, or none where no place holds it.
+    // It takes two labels, one of each list, as the search has them.
     fn find(&mut self, left: u8, right: u8) -> Result<Option<u8>, Fault>
         ensures result { (m : Meaning Pair) → Self.Told.shows self.old m → result ≡ answer (label_fault (left ∷ right ∷ [])) (label_of same_pair m.places (pair left right)) }
         ensures held { (m : Meaning Pair) → Self.Told.shows self.old m → Self.Told.shows self.new (unless (label_fault (left ∷ right ∷ [])) m (asked_once m)) }
