@@ -12,43 +12,30 @@ import sys
 
 TOP = pathlib.Path(__file__).resolve().parent.parent
 
-# kind: (point, what is looked for, pattern); a pattern runs over a whole file
+# (the kind of form, what is looked for, pattern); a pattern runs over a whole file
 PATTERNS = [
-    (1, "an enum of two cases, one bare and one with a value", r"enum \w+(?:<[^>]*>)? \{\s*(?:\w+,\s*\w+\([^)]*\),|\w+\([^)]*\),\s*\w+,)\s*\}"),
-    (1, "a struct's flag beside its value", r"(?m)^    (?:pub(?:\(crate\))? )?\w+: bool,$"),
-    (1, "a parameter that is a flag beside a value", r"fn \w+[^(]*\([^)]*: bool, [^)]*\)"),
-    (1, "a list's length that means none", r"(?m)^    \w+\.len\(\)\n\}"),
-    (1, "a number that means none", r"== 0 \{\n\s*return|0 is none|== 0 && \w+\.\w+ == 0"),
-    (1, "a fault in an Option", r"-> Option<Fault>"),
-    (1, "a fault handed on by hand", r"if let (?:Some|Err)\(fault\) = "),
-    (1, "a test by a pattern that is a method", r"if let Some\(_\) ="),
-    (1, "a number for a refusal", r"fn number_of|fn is\(fault|fn told\(fault"),
-    (3, "a loop", r"(?m)^\s*(?:for|while|loop)\b[^;\n]*(?:\{|\($|in$)"),
-    (4, "a trait of std by hand", r"(?m)^impl(?:<.*>)? (?:fmt::)?(?:PartialEq|Eq|PartialOrd|Ord|Hash|Clone|Default|From<.*>|TryFrom<.*>|Debug|Display|FromStr) for"),
-    (4, "equality or order by hand", r"fn (?:same\w*|ranks_ahead|is_exclusive)\b"),
-    (4, "a case taken for equality", r"(?m)^\s*Some\(\w+\) => .*(?:==|\.same\(|\.takes\().*,\n\s*None => false,"),
-    (4, "a fault printed by hand", r"fault\.number\(\);"),
-    (4, "a value read or shown by hand in a program", r"fn (?:read_value|show\w*|number_of|joined)\b"),
-    (6, "a count beside a buffer", r"(?m)^    (?:pub(?:\(crate\))? )?(?:count|spare|top|len): usize,$"),
-    (6, "two tables of one index in one struct", r"(?m)^    (?:pub(?:\(crate\))? )?\w+: \[[^\]]*; \w+\],\n(?:\s*//.*\n)?    (?:pub(?:\(crate\))? )?\w+: (?:\[[^\]]*; \w+\]|Option)"),
-    (6, "a filler for what is not in use", r"const (?:VACANT|UNLABELLED)\b"),
-    (6, "labels beside the part that they label", r"\w+_labels: LabelTable"),
-    (7, "an enum handed down as the step to run", r"by: Change\b"),
-    (7, "a match on a number for which to run", r"(?m)^\s*match field \{"),
+    ("options and results", "an enum of two cases, one bare and one with a value", r"enum \w+(?:<[^>]*>)? \{\s*(?:#\[\w+\]\s*)?(?:\w+,\s*\w+\([^)]*\),|\w+\([^)]*\),\s*\w+,)\s*\}"),
+    ("options and results", "a struct's flag beside its value", r"(?m)^    (?:pub(?:\(crate\))? )?\w+: bool,$"),
+    ("options and results", "a parameter that is a flag beside a value", r"fn \w+[^(]*\([^)]*: bool, [^)]*\)"),
+    ("options and results", "a list's length that means none", r"(?m)^    \w+\.len\(\)\n\}"),
+    ("options and results", "a number that means none", r"== 0 \{\n\s*return|0 is none|== 0 && \w+\.\w+ == 0"),
+    ("options and results", "a fault in an Option", r"-> Option<Fault>"),
+    ("options and results", "a fault handed on by hand", r"if let (?:Some|Err)\(fault\) = "),
+    ("options and results", "a test by a pattern that is a method", r"if let Some\(_\) ="),
+    ("options and results", "a number for a refusal", r"fn number_of|fn is\(fault|fn told\(fault"),
+    ("loops", "a loop", r"(?m)^\s*(?:for|while|loop)\b[^;\n]*(?:\{|\($|in$)"),
+    ("derives", "a trait of std by hand", r"(?m)^impl(?:<.*>)? (?:fmt::)?(?:PartialEq|Eq|PartialOrd|Ord|Hash|Clone|Default|From<.*>|TryFrom<.*>|Debug|Display|FromStr) for"),
+    ("derives", "equality or order by hand", r"fn (?:same\w*|ranks_ahead|is_exclusive)\b"),
+    ("derives", "a case taken for equality", r"(?m)^\s*Some\(\w+\) => .*(?:==|\.same\(|\.takes\().*,\n\s*None => false,"),
+    ("derives", "a fault printed by hand", r"fault\.number\(\);"),
+    ("derives", "a value read or shown by hand in a program", r"fn (?:read_value|show\w*|number_of|joined)\b"),
+    ("tables that know their count", "a count beside a buffer", r"(?m)^    (?:pub(?:\(crate\))? )?(?:count|spare|top|len): usize,$"),
+    ("tables that know their count", "two tables of one index in one struct", r"(?m)^    (?:pub(?:\(crate\))? )?\w+: \[[^\]]*; \w+\],\n(?:\s*//.*\n)?    (?:pub(?:\(crate\))? )?\w+: (?:\[[^\]]*; \w+\]|Option)"),
+    ("tables that know their count", "a filler for what is not in use", r"const (?:VACANT|UNLABELLED)\b"),
+    ("tables that know their count", "labels beside the part that they label", r"\w+_labels: LabelTable"),
+    ("closures", "an enum handed down as the step to run", r"by: Change\b"),
+    ("closures", "a match on a number for which to run", r"(?m)^\s*match field \{"),
 ]
-
-
-def heads(clauses):
-    """What a clause says first of all: the definition that it applies."""
-    for clause in clauses:
-        for word in re.findall(r"\b[A-Z]\w+(?= [A-Za-z(])", clause):
-            yield word
-
-
-def functions(text):
-    """Each function's name and its clauses."""
-    for m in re.finditer(r"fn (\w+)[^\n]*(?:\n(?!\s*fn )[^\n]*)*?\n?", text):
-        yield m
 
 
 def repeated_clauses(files):
@@ -80,30 +67,30 @@ def twins(files):
 def main():
     brief = "--counts" in sys.argv[1:]
     files = sorted((TOP / "crates").glob("*/src/**/*.rt"))
-    for point, what, pattern in PATTERNS:
+    for kind, what, pattern in PATTERNS:
         places = []
         for f in files:
             text = f.read_text()
             for m in re.finditer(pattern, text):
                 line = text.count("\n", 0, m.start() + (len(m[0]) - len(m[0].lstrip()))) + 1
                 places.append(f"{f.relative_to(TOP / 'crates')}:{line}")
-        print(f"point {point}: {what}: {len(places)}")
+        print(f"{kind}: {what}: {len(places)}")
         if not brief:
             for p in places:
                 print(f"    {p}")
     names = twins(files)
-    print(f"point 2: a function's name in two files or more: {len(names)}")
+    print(f"twins: a function's name in two files or more: {len(names)}")
     if not brief:
         for n, where in sorted(names.items()):
             print(f"    {n}: {', '.join(where)}")
     facts = repeated_clauses(files)
-    print(f"point 5: a definition of three arguments or more in the clauses of three functions or more: {len(facts)}")
+    print(f"facts said once: a definition of three arguments or more in the clauses of three functions or more: {len(facts)}")
     if not brief:
         for (crate, head), where in sorted(facts.items()):
             print(f"    {crate}: {head}: {', '.join(sorted(where))}")
     answers = sum(len(re.findall(r"(?m)^pub [\w-]+ : goal\.", f.read_text())) for f in (TOP / "crates").glob("*/proofs/**/*.antt"))
     lines = sum(f.read_text().count("\n") for f in (TOP / "crates").glob("*/proofs/**/*.antt"))
-    print(f"point 8: answers in proofs: {answers}; lines of proofs: {lines}")
+    print(f"proofs: answers in proofs: {answers}; lines of proofs: {lines}")
 
 
 if __name__ == "__main__":

@@ -1,4 +1,5 @@
 // A kind of value that a field of a filter can have.
+// Each kind gives its row and its laws itself: one frame for all would hold the same proofs, a kind at a time.
 ghost use Rattle.std.specs.Prelude.{◌≡◌, ℕ, ◌^◌, ◌<◌, Bool, [], Ok, Option};
 ghost use Rattle.fields.specs.Faults.{answer, answer_by};
 ghost use Rattle.fields.specs.declared.faults.Fault.{Fault};

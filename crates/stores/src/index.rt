@@ -23,7 +23,7 @@ pub trait Index {
     fn leave(&mut self, pair: Pair, place: u8)
         ensures { (places : List (Option Pair)) → Placed places → leads self.old places → slice_index_or places place None ≡ Some pair → leads self.new (slice_set places place None) };
 
-    // The label of a pair.
+    // The label of a pair: a plain number, as in the lists of labels, so its bound is said here.
     fn find(&self, pairs: &[Option<Pair>; PLACES], pair: Pair) -> Option<u8>
         ensures found { Placed pairs.now → leads self.now pairs.now → Within pair → result ≡ label_of same_pair pairs.now pair }
         ensures below { IfSome result (λ l. l < 96) };

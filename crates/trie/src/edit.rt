@@ -33,6 +33,7 @@ impl Tables {
         ensures grown { ∥ Growing self.new value result value.row.length ∥₁ }
     {
         let mut last = node;
+        // the depth is which bit of the prefix a turn is about
         for depth in depth..value.row().length {
             last = self.extend(last, value, depth);
         }
@@ -63,6 +64,7 @@ impl Tables {
         ensures sound { ∥ Good self.new ∥₁ }
         ensures places { self.new.places ≡ self.old.places }
     {
+        // the depth is which bit of the prefix a turn is about
         for depth in (0..value.row().length).rev() {
             if !self.snip(path, value, depth) {
                 return;

@@ -28,6 +28,7 @@ impl Tree {
         let mut path = ArrayVec::new();
         let mut node = 0;
         path.push(node);
+        // the depth is which bit of the address a turn is about
         for depth in 0..length {
             let bit = bit_after(address, depth);
             let Some(child) = self.tables.nodes[node as usize].children[bit] else {
