@@ -1,8 +1,7 @@
-use Rattle.std.proofs.Common.{◌≡◌, ℕ, ◌<◌, Bool, true, false, List, map, length, Some, None, Result, Ok, Err, sym, refl, ap, ◌∙◌, subst, arith, rules}
+use Rattle.std.proofs.Common.{◌≡◌, ℕ, ◌<◌, Bool, true, false, List, map, length, Some, None, sym, refl, ap, ◌∙◌, subst, arith, rules}
 use Rattle.std.specs.List.{insert}
 use Rattle.std.proofs.lemmas.List.{length-map}
 use Rattle.std.specs.Result.{result_unwrap_or}
-use Rattle.parts.specs.Asked.{Succeeds}
 use Rattle.std.proofs.lemmas.Result.{err_from_is_err_and}
 use Rattle.fields.specs.Faults.{answer_by}
 use Rattle.filters.specs.declared.rows.FilterRow.{FilterRow}
@@ -19,7 +18,7 @@ use Rattle.entries.specs.Entries.{Entry, entry, row_of}
 use Rattle.classifier.specs.declared.classifier.Classifier.{Classifier}
 use Rattle.classifier.specs.Standing.{Asked, Stands}
 use Rattle.classifier.specs.Telling.{Told, Came}
-use Rattle.classifier.proofs.Answered.{refused_answer, accepted_answer, refused_add, accepted_add_list, answered_err, answered_ok, some_or_none, unformed, rank_within, put_entry}
+use Rattle.classifier.proofs.Answered.{refused_answer, accepted_answer, refused_add, accepted_add_list, answered_err, answered_ok, some_or_none, unformed, rank_within, put_entry, given}
 use Rattle.classifier.proofs.classifier.edits.ClassifierSorter.add.Goals as goal
 
 pub returns-in_err-filter : goal.returns-in_err-filter
@@ -54,11 +53,6 @@ returns-in_err-position g c =
       order = refl;
       kept = λ _. same;
     }
-
--- a value that holds of what a call gave holds of what is read from it
-given : {A E : Type 0} (r : Result A E) (d : A) (P : A → Type 0) → Succeeds r P → P (result_unwrap_or r d)
-given (Ok a) d P h = h
-given (Err e) d P h = absurd h
 
 pub returns : goal.returns
 returns g c =

@@ -1,6 +1,5 @@
-use Rattle.std.proofs.Common.{◌≡◌, ℕ, Bool, true, false, List, ◌∷◌, ◌++◌, map, Some, None, Result, Ok, Err, sym, refl, ap, ◌∙◌, subst, arith, rules}
+use Rattle.std.proofs.Common.{◌≡◌, ℕ, Bool, true, false, List, ◌∷◌, ◌++◌, map, Some, None, sym, refl, ap, ◌∙◌, subst, arith, rules}
 use Rattle.std.specs.Result.{result_unwrap_or}
-use Rattle.parts.specs.Asked.{Succeeds}
 use Rattle.std.proofs.lemmas.Result.{err_from_is_err_and}
 use Rattle.fields.specs.Faults.{answer_by}
 use Rattle.filters.specs.declared.rows.FilterRow.{FilterRow}
@@ -16,7 +15,7 @@ use Rattle.labelling.proofs.Tells.{some_same}
 use Rattle.classifier.specs.declared.classifier.Classifier.{Classifier}
 use Rattle.classifier.specs.Standing.{Asked, Serves, Stands}
 use Rattle.classifier.specs.Telling.{Told, Gone}
-use Rattle.classifier.proofs.Answered.{refused_answer, accepted_answer, refused_remove, accepted_remove_list, answered_err, answered_ok, some_or_none, Parted, parted}
+use Rattle.classifier.proofs.Answered.{refused_answer, accepted_answer, refused_remove, accepted_remove_list, answered_err, answered_ok, some_or_none, Parted, parted, given}
 use Rattle.classifier.proofs.classifier.edits.ClassifierSorter.remove.Goals as goal
 
 pub returns-in_err-position : goal.returns-in_err-position
@@ -36,11 +35,6 @@ returns-in_err-position g c =
       order = refl;
       kept = λ _. same;
     }
-
--- a value that holds of what a call gave holds of what is read from it
-given : {A E : Type 0} (r : Result A E) (d : A) (P : A → Type 0) → Succeeds r P → P (result_unwrap_or r d)
-given (Ok a) d P h = h
-given (Err e) d P h = absurd h
 
 pub returns : goal.returns
 returns g c =
