@@ -1,5 +1,5 @@
 -- Calls as the filter list answers them: refused, or accepted with what the labels tell.
-use Rattle.std.proofs.Common.{◌≡◌, ℕ, zero, suc, ◌≤◌, Bool, true, false, cond, ◌||◌, List, [], ◌∷◌, ◌++◌, map, length, Some, None, Ok, Err, Option, sym, refl, ap, ◌∙◌, arith}
+use Rattle.std.proofs.Common.{◌≡◌, ℕ, zero, suc, ◌≤◌, Bool, true, false, cond, ◌||◌, List, [], ◌∷◌, ◌++◌, map, length, Some, None, Ok, Err, Option, sym, refl, ap, ◌∙◌, arith, Result}
 use Rattle.std.specs.List.{insert}
 use Rattle.std.proofs.lemmas.Bool.{both_ways}
 use Rattle.fields.specs.declared.faults.Fault.{Fault}
@@ -15,6 +15,8 @@ use Rattle.filters.specs.Answers.{Reply, replies, answer as list_answer}
 use Rattle.filters.proofs.Checks.{fault_append}
 use Rattle.filter_table.proofs.Places.{before_le, put_is}
 use Rattle.entries.specs.Entries.{Entry, row_of}
+use Rattle.std.specs.Result.{result_unwrap_or}
+use Rattle.parts.specs.Asked.{Succeeds}
 
 -- a refused call
 pub refused_answer : {X : Type 0} (show : X → Reply) (order : List ℕ) (fs : List FilterRow) (call : Call) (e : Fault) → refusal fs call ≡ Some e → answer_by show (Err e) ≡ list_answer order fs call
@@ -102,3 +104,8 @@ parted id (x ∷ es) h =
           named = ap (λ (b : Bool). cond b (Some (row_of x)) (of_identifier id (map row_of es))) t ∙ r.named;
           rest = ap (λ (ys : List FilterRow). row_of x ∷ ys) r.rest ∙ sym (ap (λ (b : Bool). cond b (map row_of es) (row_of x ∷ without id (map row_of es))) t);
         }
+
+-- what is said of the value that a call gives holds of the value read from it
+pub given : {A E : Type 0} (r : Result A E) (d : A) (P : A → Type 0) → Succeeds r P → P (result_unwrap_or r d)
+given (Ok a) d P h = h
+given (Err e) d P h = absurd h

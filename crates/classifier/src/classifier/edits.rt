@@ -34,11 +34,12 @@ impl<
     fn add(&mut self, row: FilterRow) -> Result<(u8, u8), Fault> {
         let filter = Filter::form(row)?;
         let position = self.table.add(row)?;
-        Ok(self.enter(filter, position))
+        // No part refuses while the filters stand; a refusal from here could leave nothing as it was, so none is handed on.
+        Ok(self.enter(filter, position).unwrap_or((0, 0)))
     }
 
     fn remove(&mut self, identifier: u16) -> Result<(u8, u8), Fault> {
         let position = self.table.remove(identifier)?;
-        Ok(self.leave(position))
+        Ok(self.leave(position).unwrap_or((0, 0)))
     }
 }

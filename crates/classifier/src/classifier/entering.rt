@@ -3,6 +3,7 @@ ghost use Rattle.std.specs.Prelude.{◌≡◌, ℕ, ◌<◌, ◌≤◌, List, �
 ghost use Rattle.fields.specs.declared.orders.NetworkOrder.{NetworkOrder};
 ghost use Rattle.filters.specs.declared.filter.Filter.{Filter};
 ghost use Rattle.filter_table.specs.declared.table.FilterTable.{FilterTable};
+ghost use Rattle.parts.specs.Asked.{Succeeds};
 ghost use Rattle.entries.specs.Entries.{Entry};
 ghost use Rattle.classifier.specs.Standing.{Asked, Serves};
 ghost use Rattle.classifier.specs.Telling.{Came, Gone};
@@ -11,6 +12,7 @@ use crate::classifier::Classifier;
 use columns::calls::Fields;
 use engines::engine::Engine;
 use entries::filter_labels::FilterLabels;
+use fields::faults::Fault;
 use fields::flags::FlagMask;
 use fields::prefixes::Prefix;
 use fields::protocols::Protocol;
@@ -31,14 +33,14 @@ pub(crate) trait Labeller {
     ghost network_order: { Self → NetworkOrder };
 
     // Labels a filter at a position among those served. No part refuses it while fewer than 96 are served.
-    fn enter(&mut self, filter: Filter, position: usize) -> (u8, u8)
-        ensures entered { (es : List Entry) (asked : Asked) → serves self.old es asked → length es < 96 → position ≤ length es → came self.old self.new filter position es asked result }
+    fn enter(&mut self, filter: Filter, position: usize) -> Result<(u8, u8), Fault>
+        ensures entered { (es : List Entry) (asked : Asked) → serves self.old es asked → length es < 96 → position ≤ length es → Succeeds result (λ n. came self.old self.new filter position es asked n) }
         ensures table { table self.new ≡ table self.old }
         ensures order { network_order self.new ≡ network_order self.old };
 
     // Takes back the labels of the filter at a position.
-    fn leave(&mut self, position: usize) -> (u8, u8)
-        ensures left { (before after : List Entry) (out : Entry) (asked : Asked) → serves self.old (before ++ out ∷ after) asked → position ≡ length before → gone self.old self.new out (before ++ after) asked result }
+    fn leave(&mut self, position: usize) -> Result<(u8, u8), Fault>
+        ensures left { (before after : List Entry) (out : Entry) (asked : Asked) → serves self.old (before ++ out ∷ after) asked → position ≡ length before → Succeeds result (λ n. gone self.old self.new out (before ++ after) asked n) }
         ensures table { table self.new ≡ table self.old }
         ensures order { network_order self.new ≡ network_order self.old };
 }
@@ -62,17 +64,12 @@ impl<
 
     ghost network_order = { λ classifier. classifier.network.order };
 
-    // No part refuses while the filters stand; a refusal from here could leave nothing as it was, so none is handed on.
-    fn enter(&mut self, filter: Filter, position: usize) -> (u8, u8) {
+    fn enter(&mut self, filter: Filter, position: usize) -> Result<(u8, u8), Fault> {
         if self.labels.is_full() || position > self.labels.len() {
-            return (0, 0);
+            return Err(Fault::Crowded);
         }
-        let Ok(fields) = self.columns.enter(filter) else {
-            return (0, 0);
-        };
-        let Ok(nodes) = self.network.enter(fields.labels) else {
-            return (0, 0);
-        };
+        let fields = self.columns.enter(filter)?;
+        let nodes = self.network.enter(fields.labels)?;
         // Two names, since the check doesn't cover a field that is an array put straight into a literal.
         let in_fields = fields.labels;
         let along = nodes.labels;
@@ -81,20 +78,16 @@ impl<
             nodes: along,
         };
         self.labels.insert(position, labels);
-        (fields.new, nodes.new)
+        Ok((fields.new, nodes.new))
     }
 
-    fn leave(&mut self, position: usize) -> (u8, u8) {
+    fn leave(&mut self, position: usize) -> Result<(u8, u8), Fault> {
         if position >= self.labels.len() {
-            return (0, 0);
+            return Err(Fault::Crowded);
         }
         let labels = self.labels.remove(position);
-        let Ok(fields) = self.columns.leave(labels.fields) else {
-            return (0, 0);
-        };
-        let Ok(nodes) = self.network.leave(labels.nodes) else {
-            return (0, 0);
-        };
-        (fields, nodes)
+        let fields = self.columns.leave(labels.fields)?;
+        let nodes = self.network.leave(labels.nodes)?;
+        Ok((fields, nodes))
     }
 }

@@ -1,6 +1,7 @@
-use Rattle.std.proofs.Common.{◌≡◌, ℕ, ◌<◌, Bool, true, false, List, map, length, Some, None, sym, refl, ap, ◌∙◌, subst, arith}
+use Rattle.std.proofs.Common.{◌≡◌, ℕ, ◌<◌, Bool, true, false, List, map, length, Some, None, sym, refl, ap, ◌∙◌, subst, arith, rules}
 use Rattle.std.specs.List.{insert}
 use Rattle.std.proofs.lemmas.List.{length-map}
+use Rattle.std.specs.Result.{result_unwrap_or}
 use Rattle.std.proofs.lemmas.Result.{err_from_is_err_and}
 use Rattle.fields.specs.Faults.{answer_by}
 use Rattle.filters.specs.declared.rows.FilterRow.{FilterRow}
@@ -17,7 +18,7 @@ use Rattle.entries.specs.Entries.{Entry, entry, row_of}
 use Rattle.classifier.specs.declared.classifier.Classifier.{Classifier}
 use Rattle.classifier.specs.Standing.{Asked, Stands}
 use Rattle.classifier.specs.Telling.{Told, Came}
-use Rattle.classifier.proofs.Answered.{refused_answer, accepted_answer, refused_add, accepted_add_list, answered_err, answered_ok, some_or_none, unformed, rank_within, put_entry}
+use Rattle.classifier.proofs.Answered.{refused_answer, accepted_answer, refused_add, accepted_add_list, answered_err, answered_ok, some_or_none, unformed, rank_within, put_entry, given}
 use Rattle.classifier.proofs.classifier.edits.ClassifierSorter.add.Goals as goal
 
 pub returns-in_err-filter : goal.returns-in_err-filter
@@ -64,22 +65,23 @@ returns g c =
     let ok = answered_ok (refusal (held t) (Add row)) (rank_place row (held t)) position c.in_ok-position.ensures.result in
     let room : length (held t) < 96 = (accepted_add (held t) row ok.0).room in
     let new = c.enter.new.self in
-    let came : (fs : List FilterRow) (asked : Asked) (h : Stands g.A.Told.shows g.B.Told.shows g.C.Told.shows g.D.Told.shows g.E.Told.shows g.F.Told.shows g.S.Told.shows c.args.self.now fs asked) → Came g.A.Told.shows g.B.Told.shows g.C.Told.shows g.D.Told.shows g.E.Told.shows g.F.Told.shows g.S.Told.shows g.A.Told.agrees g.B.Told.agrees g.C.Told.agrees g.D.Told.agrees g.E.Told.agrees g.F.Told.agrees g.S.Told.agrees c.args.self.now new filter position h.entries asked c.enter.result = λ fs asked h.
+    let came : (fs : List FilterRow) (asked : Asked) (h : Stands g.A.Told.shows g.B.Told.shows g.C.Told.shows g.D.Told.shows g.E.Told.shows g.F.Told.shows g.S.Told.shows c.args.self.now fs asked) → Came g.A.Told.shows g.B.Told.shows g.C.Told.shows g.D.Told.shows g.E.Told.shows g.F.Told.shows g.S.Told.shows g.A.Told.agrees g.B.Told.agrees g.C.Told.agrees g.D.Told.agrees g.E.Told.agrees g.F.Told.agrees g.S.Told.agrees c.args.self.now new filter position h.entries asked c.unwrap_or.result = λ fs asked h.
     let s = h.parts in
     let long = ap length h.filters in
     let same = ap length h.table in
     let mapped = length-map h.entries row_of in
     let within = rank_within row (held t) in
-    let r = c.enter.ensures.entered h.entries asked (record { labels = s.labels; fields = s.fields; nodes = s.nodes; first = s.first; spare = s.spare }) (omega arith) (omega (arith, ok.1)) in
+    let r = given c.enter.result (0, 0) _ (c.enter.ensures.entered h.entries asked (record { labels = s.labels; fields = s.fields; nodes = s.nodes; first = s.first; spare = s.spare }) (omega arith) (omega (arith, ok.1))) in
     let t = r.told in
-    record { labels = r.labels; serves = r.serves; field_labels = r.field_labels; node_labels = r.node_labels; told = record { source = t.source; destination = t.destination; source_port = t.source_port; destination_port = t.destination_port; protocol = t.protocol; flags = t.flags; stores = t.stores } } in
+    let read : c.unwrap_or.result ≡ result_unwrap_or c.enter.result (0, 0) = search rules in
+    record { labels = r.labels; serves = r.serves; field_labels = ap (λ (n : ℕ × ℕ). n.0) read ∙ r.field_labels; node_labels = ap (λ (n : ℕ × ℕ). n.1) read ∙ r.node_labels; told = record { source = t.source; destination = t.destination; source_port = t.source_port; destination_port = t.destination_port; protocol = t.protocol; flags = t.flags; stores = t.stores } } in
     let none : (fs : List FilterRow) (asked : Asked) → Stands g.A.Told.shows g.B.Told.shows g.C.Told.shows g.D.Told.shows g.E.Told.shows g.F.Told.shows g.S.Told.shows c.args.self.now fs asked → refusal fs (Add row) ≡ None = λ fs asked h. ap (λ (gs : List FilterRow). refusal gs (Add row)) (sym h.table) ∙ ok.0 in
     record {
       answer = λ fs asked h.
           let k = came fs asked h in
-          let e : c.enter.result.0 ≡ new_field_labels row fs = k.field_labels ∙ ap (λ (x : FilterRow). new_field_labels x (map row_of h.entries)) is_row ∙ ap (new_field_labels row) h.filters in
-          let e' : c.enter.result.1 ≡ new_node_labels order row fs = k.node_labels ∙ ap (λ (x : FilterRow). new_node_labels order x (map row_of h.entries)) is_row ∙ ap (new_node_labels order row) h.filters in
-          accepted_answer (λ (n : ℕ × ℕ). added n.0 n.1) order fs (Add row) c.enter.result (none fs asked h) (ap (λ (n : ℕ). added n c.enter.result.1) e ∙ ap (added (new_field_labels row fs)) e');
+          let e : c.unwrap_or.result.0 ≡ new_field_labels row fs = k.field_labels ∙ ap (λ (x : FilterRow). new_field_labels x (map row_of h.entries)) is_row ∙ ap (new_field_labels row) h.filters in
+          let e' : c.unwrap_or.result.1 ≡ new_node_labels order row fs = k.node_labels ∙ ap (λ (x : FilterRow). new_node_labels order x (map row_of h.entries)) is_row ∙ ap (new_node_labels order row) h.filters in
+          accepted_answer (λ (n : ℕ × ℕ). added n.0 n.1) order fs (Add row) c.unwrap_or.result (none fs asked h) (ap (λ (n : ℕ). added n c.unwrap_or.result.1) e ∙ ap (added (new_field_labels row fs)) e');
       stands = λ fs asked h.
           let k = came fs asked h in
           let x : Entry = entry filter k.labels in

@@ -1,4 +1,5 @@
-use Rattle.std.proofs.Common.{◌≡◌, ℕ, Bool, true, false, List, ◌∷◌, ◌++◌, map, Some, None, sym, refl, ap, ◌∙◌, subst, arith}
+use Rattle.std.proofs.Common.{◌≡◌, ℕ, Bool, true, false, List, ◌∷◌, ◌++◌, map, Some, None, sym, refl, ap, ◌∙◌, subst, arith, rules}
+use Rattle.std.specs.Result.{result_unwrap_or}
 use Rattle.std.proofs.lemmas.Result.{err_from_is_err_and}
 use Rattle.fields.specs.Faults.{answer_by}
 use Rattle.filters.specs.declared.rows.FilterRow.{FilterRow}
@@ -14,7 +15,7 @@ use Rattle.labelling.proofs.Tells.{some_same}
 use Rattle.classifier.specs.declared.classifier.Classifier.{Classifier}
 use Rattle.classifier.specs.Standing.{Asked, Serves, Stands}
 use Rattle.classifier.specs.Telling.{Told, Gone}
-use Rattle.classifier.proofs.Answered.{refused_answer, accepted_answer, refused_remove, accepted_remove_list, answered_err, answered_ok, some_or_none, Parted, parted}
+use Rattle.classifier.proofs.Answered.{refused_answer, accepted_answer, refused_remove, accepted_remove_list, answered_err, answered_ok, some_or_none, Parted, parted, given}
 use Rattle.classifier.proofs.classifier.edits.ClassifierSorter.remove.Goals as goal
 
 pub returns-in_err-position : goal.returns-in_err-position
@@ -45,21 +46,22 @@ returns g c =
     let new = c.leave.new.self in
     let split : (fs : List FilterRow) (asked : Asked) (h : Stands g.A.Told.shows g.B.Told.shows g.C.Told.shows g.D.Told.shows g.E.Told.shows g.F.Told.shows g.S.Told.shows c.args.self.now fs asked) → Parted id fs h.entries = λ fs asked h.
     subst (λ (gs : List FilterRow). Parted id gs h.entries) h.filters (parted id h.entries (accepted_removal (map row_of h.entries) id (ap (λ (gs : List FilterRow). refusal gs (Remove id)) (h.filters ∙ sym h.table) ∙ ok.0))) in
-    let left : (fs : List FilterRow) (asked : Asked) (h : Stands g.A.Told.shows g.B.Told.shows g.C.Told.shows g.D.Told.shows g.E.Told.shows g.F.Told.shows g.S.Told.shows c.args.self.now fs asked) → (q : Parted id fs h.entries) → Gone g.A.Told.shows g.B.Told.shows g.C.Told.shows g.D.Told.shows g.E.Told.shows g.F.Told.shows g.S.Told.shows g.A.Told.agrees g.B.Told.agrees g.C.Told.agrees g.D.Told.agrees g.E.Told.agrees g.F.Told.agrees g.S.Told.agrees c.args.self.now new q.gone (q.front ++ q.back) asked c.leave.result = λ fs asked h q.
+    let left : (fs : List FilterRow) (asked : Asked) (h : Stands g.A.Told.shows g.B.Told.shows g.C.Told.shows g.D.Told.shows g.E.Told.shows g.F.Told.shows g.S.Told.shows c.args.self.now fs asked) → (q : Parted id fs h.entries) → Gone g.A.Told.shows g.B.Told.shows g.C.Told.shows g.D.Told.shows g.E.Told.shows g.F.Told.shows g.S.Told.shows g.A.Told.agrees g.B.Told.agrees g.C.Told.agrees g.D.Told.agrees g.E.Told.agrees g.F.Told.agrees g.S.Told.agrees c.args.self.now new q.gone (q.front ++ q.back) asked c.unwrap_or.result = λ fs asked h q.
     let s = h.parts in
     let whole = q.whole in
     let parts : Serves g.A.Told.shows g.B.Told.shows g.C.Told.shows g.D.Told.shows g.E.Told.shows g.F.Told.shows g.S.Told.shows c.args.self.now (q.front ++ q.gone ∷ q.back) asked = subst (λ (es : List Entry). Serves g.A.Told.shows g.B.Told.shows g.C.Told.shows g.D.Told.shows g.E.Told.shows g.F.Told.shows g.S.Told.shows c.args.self.now es asked) whole s in
-    let r = c.leave.ensures.left q.front q.back q.gone asked (record { labels = parts.labels; fields = parts.fields; nodes = parts.nodes; first = parts.first; spare = parts.spare }) (ok.1 ∙ ap (place_of id) h.table ∙ q.place) in
+    let r = given c.leave.result (0, 0) _ (c.leave.ensures.left q.front q.back q.gone asked (record { labels = parts.labels; fields = parts.fields; nodes = parts.nodes; first = parts.first; spare = parts.spare }) (ok.1 ∙ ap (place_of id) h.table ∙ q.place)) in
     let t = r.told in
-    record { serves = r.serves; field_labels = r.field_labels; node_labels = r.node_labels; told = record { source = t.source; destination = t.destination; source_port = t.source_port; destination_port = t.destination_port; protocol = t.protocol; flags = t.flags; stores = t.stores } } in
+    let read : c.unwrap_or.result ≡ result_unwrap_or c.leave.result (0, 0) = search rules in
+    record { serves = r.serves; field_labels = ap (λ (n : ℕ × ℕ). n.0) read ∙ r.field_labels; node_labels = ap (λ (n : ℕ × ℕ). n.1) read ∙ r.node_labels; told = record { source = t.source; destination = t.destination; source_port = t.source_port; destination_port = t.destination_port; protocol = t.protocol; flags = t.flags; stores = t.stores } } in
     let none : (fs : List FilterRow) (asked : Asked) → Stands g.A.Told.shows g.B.Told.shows g.C.Told.shows g.D.Told.shows g.E.Told.shows g.F.Told.shows g.S.Told.shows c.args.self.now fs asked → refusal fs (Remove id) ≡ None = λ fs asked h. ap (λ (gs : List FilterRow). refusal gs (Remove id)) (sym h.table) ∙ ok.0 in
     record {
       answer = λ fs asked h.
           let q = split fs asked h in
           let k = left fs asked h q in
-          let e : c.leave.result.0 ≡ freed_field_labels id fs = k.field_labels ∙ ap (new_field_labels (row_of q.gone)) q.rest ∙ sym (ap (if_any (λ f. new_field_labels f (without id fs))) q.named) in
-          let e' : c.leave.result.1 ≡ freed_node_labels order id fs = k.node_labels ∙ ap (new_node_labels order (row_of q.gone)) q.rest ∙ sym (ap (if_any (λ f. new_node_labels order f (without id fs))) q.named) in
-          accepted_answer (λ (n : ℕ × ℕ). removed n.0 n.1) order fs (Remove id) c.leave.result (none fs asked h) (ap (λ (n : ℕ). removed n c.leave.result.1) e ∙ ap (removed (freed_field_labels id fs)) e');
+          let e : c.unwrap_or.result.0 ≡ freed_field_labels id fs = k.field_labels ∙ ap (new_field_labels (row_of q.gone)) q.rest ∙ sym (ap (if_any (λ f. new_field_labels f (without id fs))) q.named) in
+          let e' : c.unwrap_or.result.1 ≡ freed_node_labels order id fs = k.node_labels ∙ ap (new_node_labels order (row_of q.gone)) q.rest ∙ sym (ap (if_any (λ f. new_node_labels order f (without id fs))) q.named) in
+          accepted_answer (λ (n : ℕ × ℕ). removed n.0 n.1) order fs (Remove id) c.unwrap_or.result (none fs asked h) (ap (λ (n : ℕ). removed n c.unwrap_or.result.1) e ∙ ap (removed (freed_field_labels id fs)) e');
       stands = λ fs asked h.
           let q = split fs asked h in
           let k = left fs asked h q in
