@@ -15,7 +15,7 @@ pub fn read_line(line: &[u8]) -> Option<Line> {
     }
 }
 
-// A value and a number.
+// A value and a number, on words alone: the crate spelling rests on the filter list, which an explanation has no use for.
 fn read_taking(kind: &[u8], rest: &[u8]) -> Option<Question> {
     let (value, number) = cut(rest, b' ')?;
     match kind {

@@ -5,9 +5,9 @@ use filters::rows::Class;
 use lines::calls::read_call;
 use std::test::Fail;
 
-// The number that a line is refused with, 0 if it is read.
-fn refused(line: &str) -> u8 {
-    read_call(line.as_bytes()).map_or_else(|fault| fault.number(), |_| 0)
+// The number that a line is refused with, if it is refused.
+fn refused(line: &str) -> Option<u8> {
+    Some(read_call(line.as_bytes()).err()?.number())
 }
 
 #[test]
@@ -87,7 +87,7 @@ fn no_form(rt: HostRuntime) {
         "é 2",
     ];
     for line in lines {
-        assert_eq!(rt; refused(line), 1);
+        assert_eq!(rt; refused(line), Some(1));
     }
 }
 
@@ -106,11 +106,11 @@ fn no_filter(rt: HostRuntime) {
         "A 1 00000000/0 0:65535 0:65535 17 00=00 3 e 10",
     ];
     for line in lines {
-        assert_eq!(rt; refused(line), 1);
+        assert_eq!(rt; refused(line), Some(1));
     }
     assert_eq!(rt;
         refused("A 65535 FFFFFFFF/255 FFFFFFFF/255 65535:65535 65535:65535 255 FF=FF 255 n 65535"),
-        0
+        None
     );
 }
 
@@ -126,9 +126,9 @@ fn no_search(rt: HostRuntime) {
         "F 0A010203 0A020304 5000 34964 17 00 2 16",
     ];
     for line in lines {
-        assert_eq!(rt; refused(line), 1);
+        assert_eq!(rt; refused(line), Some(1));
     }
-    assert_eq!(rt; refused("F 0A010203 0A020304 5000 34964 17 00 255"), 0);
+    assert_eq!(rt; refused("F 0A010203 0A020304 5000 34964 17 00 255"), None);
 }
 
 // A byte that is no text is refused like any other, and a long line whatever it begins with.

@@ -14,6 +14,7 @@ use fields::prefixes::{Prefix, PrefixRow};
 use fields::protocols::ProtocolRow;
 use fields::ranges::{PortRange, RangeRow};
 
+// Each reason is of another kind, so that a common frame would be handed all but two lines.
 // The first bit in which the number differs from the prefix.
 pub fn prefix(row: PrefixRow, number: u32) -> Result<Option<u8>, Fault>
     ensures { Explains (prefix_fault row) (prefix_takes row number) (FirstDifference row number) result }
@@ -40,7 +41,7 @@ pub fn range(row: RangeRow, number: u16) -> Result<Option<Side>, Fault>
     }))
 }
 
-// The number that the protocol takes alone.
+// The number that the protocol takes alone. Every protocol's row forms a value; the Result is for the shape of the four.
 pub fn protocol(row: ProtocolRow, number: u8) -> Result<Option<u8>, Fault>
     ensures { Explains (protocol_fault row) (protocol_takes row number) (OtherThan row number) result }
 {

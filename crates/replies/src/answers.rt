@@ -20,6 +20,7 @@ pub fn write_answer(
     }
 }
 
+// Pieces by functions, each with its clause: a Display would need the answer and the list in one struct and hold the same pieces.
 fn write_accepted(out: &mut String, answer: Answer, listed: &[u16]) -> Result<(), AllocError>
     ensures { OnOk result (string_bytes out.new ≡ string_bytes out.old ++ answer_text (Ok answer) listed.now) }
 {

@@ -12,6 +12,7 @@ use fields::ranges::RangeRow;
 use filters::rows::Class;
 use words::values::{read_flag_mask, read_prefix, read_protocol, read_range};
 
+// Each impl names its text and its reader, and has nothing else to share.
 impl Spelled for PrefixRow {
     ghost spelling = { prefix_text };
 

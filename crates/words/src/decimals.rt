@@ -16,6 +16,7 @@ pub fn read_u16(word: &[u8]) -> Option<u16>
         return None;
     }
     let mut number = 0;
+    // A loop, since its invariant speaks of the bytes so far, of which the closure of a fold knows nothing.
     for byte in word {
         number = next_digit(number, *byte)?;
     }

@@ -26,6 +26,7 @@ fn read_hex(word: &[u8], digits: usize) -> Option<u32>
         return None;
     }
     let mut number = 0;
+    // A loop, since the bound of the number so far is not known inside the closure of a fold.
     for byte in word {
         number = number * 16 + hex_value(*byte)? as u32;
     }

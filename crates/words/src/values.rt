@@ -10,6 +10,7 @@ use fields::prefixes::PrefixRow;
 use fields::protocols::ProtocolRow;
 use fields::ranges::RangeRow;
 
+// Three readers that name their separator and their parts: a common one would take both readers and the making of the row.
 pub fn read_prefix(word: &[u8]) -> Option<PrefixRow>
     ensures { Reads prefix_text PrefixFits word.now result }
 {
