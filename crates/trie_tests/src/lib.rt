@@ -19,15 +19,14 @@ mod tests {
         <Prefix as Kind>::form(PrefixRow { address, length })
     }
 
-    // How many labels a match found, or the number of a refusal.
-    fn told(answer: Answer<Prefix>) -> usize {
-        let refusal = match answer {
-            Answer::Emptied => None,
-            Answer::Set(result) => result.err(),
-            Answer::Cleared(result) => result.err(),
-            Answer::Matched(result, _) => return result.unwrap_or(0),
-        };
-        refusal.map_or(0, |fault| fault.number() as usize)
+    // How many labels a match found, none where the call asks for no labels, or a refusal.
+    fn told(answer: Answer<Prefix>) -> Result<Option<usize>, Fault> {
+        match answer {
+            Answer::Emptied => Ok(None),
+            Answer::Set(result) => result.map(|_| None),
+            Answer::Cleared(result) => result.map(|_| None),
+            Answer::Matched(result, _) => result.map(Some),
+        }
     }
 
     fn alike<T: Rows<PrefixRow> + Drop>(
@@ -49,7 +48,19 @@ mod tests {
             Call::Clear(3),
             Call::Match(0x0A01_0203),
         ];
-        let wanted = [0, 0, 0, 11, 12, 10, 3, 1, 0, 13, 2];
+        let wanted = [
+            Ok(None),
+            Ok(None),
+            Ok(None),
+            Err(Fault::Full(3)),
+            Err(Fault::Elsewhere(3)),
+            Err(Fault::Label(96)),
+            Ok(Some(3)),
+            Ok(Some(1)),
+            Ok(None),
+            Err(Fault::Vacant(3)),
+            Ok(Some(2)),
+        ];
         let mut scan = Scan::over(table);
         let mut trie = Trie::new();
         let both = run_both(heap, &mut scan, &mut trie, &calls)?;
