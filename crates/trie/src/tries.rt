@@ -28,7 +28,7 @@ pub struct Trie {
 impl Trie {
     pub fn new() -> Trie
         ensures held { Shows result nothing }
-        ensures asked { Agrees result.asked [] }
+        ensures asked { Agrees {Q = ℕ} result.asked [] }
     {
         Trie {
             tree: Tree::bare(),

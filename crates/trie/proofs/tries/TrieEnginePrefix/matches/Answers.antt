@@ -30,7 +30,7 @@ returns c =
         counted = ap (λ (x : ℕ). (x + 1) % 2 ^ 32) s.counted;
         small = mod-lt (c.args.self.now.asked + 1) (omega arith);
       };
-      asked = λ l h. ap (λ (x : ℕ). x % 2 ^ 32) (length-append l (a ∷ [])) ∙ counts_on (length l) c.args.self.now.asked h;
+      asked = λ l h. sym (ap (λ (x : ℕ). x % 2 ^ 32) (length-append l (a ∷ [])) ∙ counts_on (length l) c.args.self.now.asked (sym h));
       short = λ h. absurd (let e = cond-true (ltb (length old) 96) (Some (Short (length old))) None (lt-ltb (length old) 96 h) in let z : ◌≡◌ {A = ℕ} 0 1 = cc r in omega arith);
       kept = λ h. absurd (let z : ◌≡◌ {A = ℕ} 0 1 = cc in omega arith);
       few = c.in_ok-count.ensures.few;
