@@ -43,11 +43,14 @@ fn read_form(line: &[u8]) -> Option<Call>
     ensures { Reads call_text CallFits line.now result }
 {
     let (command, arguments) = cut(line, b' ')?;
-    match command {
-        b"A" => read_add(arguments),
-        b"R" => read_remove(arguments),
-        b"L" => read_inspect(arguments),
-        b"F" => read_search(arguments),
+    let [letter] = command else {
+        return None;
+    };
+    match *letter as char {
+        'A' => read_add(arguments),
+        'R' => read_remove(arguments),
+        'L' => read_inspect(arguments),
+        'F' => read_search(arguments),
         _ => None,
     }
 }

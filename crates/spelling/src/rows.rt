@@ -75,9 +75,12 @@ impl Spelled for Class {
     ghost fits = { λ _. Unit {0} };
 
     fn read(bytes: &[u8]) -> Option<Class> {
-        match bytes {
-            b"e" => Some(Class::Exclusive),
-            b"n" => Some(Class::NonExclusive),
+        let [letter] = bytes else {
+            return None;
+        };
+        match *letter as char {
+            'e' => Some(Class::Exclusive),
+            'n' => Some(Class::NonExclusive),
             _ => None,
         }
     }

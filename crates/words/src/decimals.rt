@@ -37,8 +37,11 @@ fn begins_decimal(word: &[u8]) -> bool
 fn next_digit(number: u16, byte: u8) -> Option<u16>
     ensures { SomeIff result ((48 ≤ byte) × (byte ≤ 57) × (number * 10 + (byte - 48) < 2 ^ 16)) (number * 10 + (byte - 48)) }
 {
+    let more = number as u32 * 10;
     match byte {
-        b'0'..=b'9' => number.checked_mul(10)?.checked_add((byte - b'0') as u16),
+        b'0'..=b'9' if more + (byte - b'0') as u32 <= u16::MAX as u32 => Some(
+            (more + (byte - b'0') as u32) as u16,
+        ),
         _ => None,
     }
 }
