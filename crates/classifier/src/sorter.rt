@@ -22,7 +22,7 @@ pub trait Sorter {
     // in which order it combines the fields
     ghost network_order: { Self → NetworkOrder };
 
-    // Adds a filter, and answers how many field labels and how many combination labels came into use.
+    // Adds a filter, and answers how many field labels and how many combination labels came into use: a pair of plain counts.
     fn add(&mut self, row: FilterRow) -> Result<(u8, u8), Fault>
         ensures answer { (fs : List FilterRow) (asked : Asked) → stands self.old fs asked → answer_by (λ n. added n.0 n.1) result ≡ list_answer (network_order self.old).fields fs (Add row) }
         ensures stands { (fs : List FilterRow) (asked : Asked) → stands self.old fs asked → stands self.new (after fs (Add row)) asked }

@@ -8,7 +8,7 @@ ghost use Rattle.engines.specs.Rising.{rising};
 use fields::faults::Fault;
 use parts::checks::check_room;
 
-// Writes the labels there are, rising, from the start of the list, and answers how many.
+// Writes the labels there are, rising, from the start of the list, and answers how many; from two labels, where others go over marks.
 pub fn write_rising(first: Option<u8>, second: Option<u8>, list: &mut [u8]) -> Result<usize, Fault>
     ensures result { result ≡ answer (list_fault (length list.old)) (length (rising first second)) }
     ensures written { list.new ≡ unless (list_fault (length list.old)) list.old (over_start (rising first second) list.old) }

@@ -1,4 +1,5 @@
 // Searches of a table of rows: which value lies at a place, where a value lies, and which values a number satisfies.
+// The rows are their owner's and which are full is the engine's record, so the two are handed on side by side.
 ghost use Rattle.std.specs.Prelude.{◌≡◌, List, map, None, Option, slice_index_or};
 ghost use Rattle.parts.specs.Meaning.{find as label_of};
 ghost use Rattle.parts.specs.Marks.{hit};

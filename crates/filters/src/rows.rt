@@ -15,7 +15,8 @@ pub enum Class {
     NonExclusive,
 }
 
-// The default row is no filter's, as none has the identifier 0.
+// The default row is no filter's, as none has the identifier 0. Its six values are fields of their own, as in a formed filter and a
+// header: they are of three sorts there, and a caller names each.
 #[derive(Clone, Copy, Default)]
 pub struct FilterRow {
     pub identifier: u16,

@@ -32,7 +32,7 @@ fn ask_row<S: Store>(
     Ok(())
 }
 
-// Asks every pair of a left and a right label.
+// Asks every pair of a left and a right label, both lists as slices, since what was found is the first part of an array.
 fn ask_pairs<S: Store>(store: &mut S, left: &[u8], right: &[u8]) -> Result<Searched, Fault>
     requires left { length left.now ≤ 96 }
     requires right { length right.now ≤ 96 }

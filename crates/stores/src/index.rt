@@ -12,6 +12,7 @@ pub trait Index {
     // the index leads to each pair that these places hold
     ghost leads: { Self → List (Option Pair) → Type 0 };
 
+    // It leads nowhere. An index is emptied and not made, since a maker of chains takes their key from the caller.
     fn empty(&mut self)
         ensures { leads self.new (replicate 96 None) };
 

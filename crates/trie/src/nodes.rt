@@ -17,7 +17,8 @@ pub const BELOW_ROOT: usize = PLACES * BITS;
 
 pub const NODES: usize = BELOW_ROOT + 1;
 
-// A node stands for a bit string and is named by its index in a table, since nothing is allocated. Its children stand for that string and one bit more, and the bit is their index.
+// A node stands for a bit string and is named by its index in a table, since nothing is allocated. Its children stand for that
+// string and one bit more, and the bit is their index.
 #[derive(Clone, Copy)]
 pub struct Node {
     pub label: Option<u8>,

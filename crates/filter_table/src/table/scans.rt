@@ -15,7 +15,7 @@ use filters::calls::{Best, Scanned};
 use filters::rows::Header;
 
 impl FilterTable {
-    // Scans the standing filters: the best, and the identifiers of the listed ones from the start of the list.
+    // Scans the standing filters: the best, and the identifiers of the listed ones from the start of the list, which is the caller's.
     pub fn scan(&self, header: &Header, most: u8, list: &mut [u16]) -> Result<Scanned, Fault>
         ensures result { result ≡ answer (refusal (held self.now) (Search header.now most (length list.old))) (scan_answer (held self.now) header.now most) }
         ensures list { list.new ≡ unless (refusal (held self.now) (Search header.now most (length list.old))) list.old (written (listed (held self.now) header.now most) list.old) }
