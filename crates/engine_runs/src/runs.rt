@@ -62,6 +62,7 @@ pub struct Both<V: Copy> {
 }
 
 // Runs the same calls on two engines. Their answers are equal, whatever the engines and the calls are.
+// store_runs has the same few lines, as of `run`.
 pub fn run_both<V: Kind, A: Engine<V>, B: Engine<V>>(
     heap: Global,
     first: &mut A,

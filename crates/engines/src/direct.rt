@@ -44,6 +44,7 @@ impl Direct {
         }
     }
 
+    // A method of each engine: one of `Told` would leave open at a scan engine's call for which kind of value it is meant.
     pub fn asked_number(&self) -> u32
         ensures { result ≡ self.now.asked }
     {

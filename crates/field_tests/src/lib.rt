@@ -26,7 +26,7 @@ mod tests {
 
     // The number and the detail of a fault, if there is one.
     fn told(fault: Option<Fault>) -> Option<(u8, u32)> {
-        fault.map(|fault| (fault.number(), fault.detail()))
+        fault.map(Fault::told)
     }
 
     fn prefix_fault(address: u32, length: u8) -> Option<Fault> {

@@ -37,6 +37,7 @@ pub fn replay(calls: &[Call]) -> FilterTable
     ensures balance { (order : List ℕ) → Balanced order calls.now }
 {
     let mut table = FilterTable::empty();
+    // a loop, since a fold would hand the table from turn to turn by value
     for call in calls {
         perform(&mut table, call);
     }

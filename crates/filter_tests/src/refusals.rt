@@ -64,7 +64,7 @@ fn for_port(identifier: u16, port: u16, class: Class) -> FilterRow {
 
 // The number and the detail of a refusal.
 fn told(fault: Option<Fault>) -> Option<(u8, u32)> {
-    fault.map(|fault| (fault.number(), fault.detail()))
+    fault.map(Fault::told)
 }
 
 // The identifiers 1 to 96, each for the port of its number.

@@ -105,6 +105,7 @@ impl<S: Store> Network<S> {
     pub fn in_use(&self) -> usize
         ensures { (fs : List Filed) (ns : List ℕ) → Nodes S.Told.shows self.now.nodes fs ns 5 → AllByRecursion First fs → result ≡ rows_in_use fs 5 }
     {
+        // added up in a loop, since of what a generic closure answers the bound that a sum wants is not known
         let mut total = 0;
         for node in &self.nodes {
             total += node.table.in_use();

@@ -27,24 +27,16 @@ impl<S: Store> Network<S> {
         ensures order { self.new.order ≡ self.old.order }
     {
         let start = field_index(&self.order, 1);
-        let first = fields[start];
-        let mut left = first.labels;
-        let mut count = first.count;
+        let mut found = fields[start];
         let mut asked = 0;
         for (k, node) in self.nodes.iter_mut().enumerate() {
             let next = field_index(&self.order, k + 2);
             let right = fields[next];
-            let searched = ask_node(node, &left[0..count], &right.labels[0..right.count])?;
-            left = searched.found.labels;
-            count = searched.found.count;
+            let left = &found.labels[0..found.count];
+            let searched = ask_node(node, left, &right.labels[0..right.count])?;
+            found = searched.found;
             asked += searched.asked;
         }
-        Ok(Searched {
-            found: Found {
-                labels: left,
-                count,
-            },
-            asked,
-        })
+        Ok(Searched { found, asked })
     }
 }

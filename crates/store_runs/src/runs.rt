@@ -42,6 +42,7 @@ pub fn run<S: Store>(
 }
 
 // Performs one list of calls on two stores of any make: their answers are the same.
+// engine_runs has the same few lines, as of `run`.
 pub fn run_both<A: Store, B: Store>(
     heap: Global,
     first: &mut A,

@@ -45,7 +45,7 @@ impl Trie {
         self.tree.in_use()
     }
 
-    // How often the engine was asked since it was emptied, modulo 2^32.
+    // How often the engine was asked since it was emptied, modulo 2^32. A method of each engine, as the scan engine says.
     pub fn asked_number(&self) -> u32
         ensures { (m : Meaning Prefix) → Shows self.now m → result ≡ m.asked }
     {
