@@ -1,13 +1,11 @@
-use Rattle.std.proofs.Common.{◌≡◌, ℕ, ◌<◌, Bool, List, [], ◌∷◌, length, get_or, take, Ok, Option, Result, sym, ap, ◌∙◌, subst, rules}
+use Rattle.std.proofs.Common.{◌≡◌, ◌<◌, Bool, List, [], ◌∷◌, length, get_or, take, Ok, Option, Result, sym, ap, ◌∙◌, subst, rules}
 use Rattle.fields.specs.declared.faults.Fault.{Fault}
 use Rattle.fields.specs.Faults.{answer, unless}
 use Rattle.stores.specs.declared.pairs.Pair.{Pair}
 use Rattle.stores.specs.Pairs.{pair, same_pair}
-use Rattle.std.proofs.lemmas.List.{take_all}
 use Rattle.parts.specs.Meaning.{find, asked_once}
 use Rattle.parts.specs.Marks.{mark_found}
 use Rattle.parts.specs.Asked.{Questioned, after_questions}
-use Rattle.labelling.proofs.Tells.{never_err}
 use Rattle.network.specs.Products.{row, marks_after}
 use Rattle.network.proofs.Asking.{row_more, after_places, marks_append, questioned_append}
 use Rattle.network.proofs.Entering.{none_over}
@@ -15,16 +13,6 @@ use Rattle.network.proofs.asks.ask_row.Goals as goal
 
 ok_same : {A : Type 0} {a b : A} → ◌≡◌ {A = Result A Fault} (Ok a) (Ok b) → a ≡ b
 ok_same {A} {a} {b} e = cc
-
-pub returns-in_err-label : goal.returns-in_err-label
-returns-in_err-label g c =
-    let i = c.loop-b.b-index in
-    let a = c.args.a in
-    let right = c.args.right.now in
-    let b = get_or right i 0 in
-    λ m s la lr.
-    let inv = c.loop-b.invariant m s la lr in
-    absurd (never_err (find same_pair (after_questions m (row a (take i right))).places (pair a b)) (none_over a b la (lr i)) (c.in_err-label.ensures.result (after_questions m (row a (take i right))) inv.0.shown))
 
 pub loop-b-preserved : goal.loop-b-preserved
 loop-b-preserved g c =
@@ -52,9 +40,3 @@ loop-b-preserved g c =
           ∙ sym (marks_append (find same_pair m.places) c.args.marks.now old (pair a b ∷ []))
           ∙ ap (marks_after (find same_pair m.places) c.args.marks.now) (sym e),
     )
-
-pub returns : goal.returns
-returns g c =
-    let right = c.args.right.now in
-    let all : take c.loop-b.b-index right ≡ right = take_all c.loop-b.b-index right (search rules) in
-    λ m s la lr. subst (λ (bs : List ℕ). Questioned g.S.Told.shows g.S.Told.agrees c.args.store.now c.loop-b.store m (row c.args.a bs) × (c.loop-b.marks ≡ marks_after (find same_pair m.places) c.args.marks.now (row c.args.a bs))) all (c.loop-b.invariant m s la lr)

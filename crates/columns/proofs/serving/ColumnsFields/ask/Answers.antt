@@ -14,24 +14,6 @@ use Rattle.columns.specs.Fields.{prefix_eq, range_eq, protocol_eq, flags_eq}
 use Rattle.columns.proofs.OneField.{answered}
 use Rattle.columns.proofs.serving.ColumnsFields.ask.Goals as goal
 
-pub returns-in_err-a : goal.returns-in_err-a
-returns-in_err-a g c = λ ps ns s. absurd (c.in_err-a.ensures (meaning (keys c.args.self.now.source.table.slots) (ns 0)) s.source.shown)
-
-pub returns-in_err-b : goal.returns-in_err-b
-returns-in_err-b g c = λ ps ns s. absurd (c.in_err-b.ensures (meaning (keys c.args.self.now.destination.table.slots) (ns 1)) s.destination.shown)
-
-pub returns-in_err-c : goal.returns-in_err-c
-returns-in_err-c g c = λ ps ns s. absurd (c.in_err-c.ensures (meaning (keys c.args.self.now.source_port.table.slots) (ns 2)) s.source_port.shown)
-
-pub returns-in_err-d : goal.returns-in_err-d
-returns-in_err-d g c = λ ps ns s. absurd (c.in_err-d.ensures (meaning (keys c.args.self.now.destination_port.table.slots) (ns 3)) s.destination_port.shown)
-
-pub returns-in_err-e : goal.returns-in_err-e
-returns-in_err-e g c = λ ps ns s. absurd (c.in_err-e.ensures (meaning (keys c.args.self.now.protocol.table.slots) (ns 4)) s.protocol.shown)
-
-pub returns-in_err-f : goal.returns-in_err-f
-returns-in_err-f g c = λ ps ns s. absurd (c.in_err-f.ensures (meaning (keys c.args.self.now.flags.table.slots) (ns 5)) s.flags.shown)
-
 pub returns : goal.returns
 returns g c = λ ps ns s.
     let ea = c.in_ok-a.ensures (meaning (keys c.args.self.now.source.table.slots) (ns 0)) s.source.shown in

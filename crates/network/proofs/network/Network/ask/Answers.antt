@@ -14,16 +14,6 @@ use Rattle.network.proofs.Searching.{labels_at, turn}
 use Rattle.network.proofs.Reached.{all_reached, one_label, by_rows}
 use Rattle.network.proofs.network.Network.ask.Goals as goal
 
-pub loop-k-init : goal.loop-k-init
-loop-k-init g c =
-    let fields = c.args.fields.now in
-    let start = c.field_index-start.result in
-    let d₀ = c.index-fields-start.result in
-    let f = get_or fields start d₀ in
-    let here : take f.count f.labels ≡ found_in fields start = labels_at fields start d₀ (search rules) in
-    let at : start ≡ get_or c.args.self.now.order.fields 0 0 - 1 = c.field_index-start.ensures.value (omega arith) (omega arith) in
-    (f.few, f.size, search rules, λ j d h. refl, λ fs ns d s lf. (λ j l. absurd (omega arith), here ∙ ap (found_in fields) at, refl, lf (get_or c.args.self.now.order.fields 0 0 - 1)))
-
 pub loop-k-preserved : goal.loop-k-preserved
 loop-k-preserved g c =
     let k = c.loop-k.k in

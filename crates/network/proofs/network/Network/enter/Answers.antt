@@ -1,26 +1,8 @@
 use Rattle.std.proofs.Common.{◌≡◌, ◌+◌, ◌<◌, ◌++◌, map, length, get_or, set, refl, ap, ◌∙◌, arith, length-set, rules}
 use Rattle.std.proofs.lemmas.List.{get_or-set_other}
 use Rattle.network.specs.Nodes.{filed, at_node, fresh, arranged, unused}
-use Rattle.network.proofs.Entering.{replicate_below, set_below, none_over, field_is, key_is, next_is, map_length, node_before, chained, bit_one, fresh_more, unused_split, untold_more, keys_kept, asks_more}
+use Rattle.network.proofs.Entering.{set_below, none_over, key_is, next_is, map_length, node_before, chained, bit_one, fresh_more, unused_split, untold_more, keys_kept, asks_more}
 use Rattle.network.proofs.network.Network.enter.Goals as goal
-
-pub loop-k-init : goal.loop-k-init
-loop-k-init g c =
-    let order = c.args.self.now.order in
-    let fields = c.args.fields in
-    let start = c.field_index-start.result in (
-      search rules,
-      refl,
-      λ j d h. refl,
-      λ j d l a. a,
-      λ before after ns s few lf. (
-        λ j d l. absurd (omega arith),
-        λ i. replicate_below 6 (get_or fields start 0) i (lf start),
-        refl,
-        field_is order.fields fields 0 start (omega (arith, order.size)) (c.field_index-start.ensures.value (omega arith) (omega arith)),
-        λ j d l. absurd (omega arith),
-      ),
-    )
 
 pub returns-in_err-acquired : goal.returns-in_err-acquired
 returns-in_err-acquired g c =

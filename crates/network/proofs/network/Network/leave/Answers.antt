@@ -20,9 +20,6 @@ here {S} shows nodes nodes₀ k d before after f ns l kept s =
     (subst (λ (x : Board Pair S). Stands same_pair shows x.table.slots x.part (map (at_node k) (before ++ f ∷ after)) (get_or ns k 0)) (sym (kept k d (omega arith)))
     (s k d l))
 
-pub loop-k-init : goal.loop-k-init
-loop-k-init g c = (search rules, λ j d h. refl, λ j d l a. a, λ before after fields ns s. (λ j d l. absurd (omega arith), refl, λ j d l. absurd (omega arith)))
-
 pub returns-in_err-last : goal.returns-in_err-last
 returns-in_err-last g c =
     let k = c.loop-k.k in

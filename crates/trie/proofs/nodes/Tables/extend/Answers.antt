@@ -1,4 +1,4 @@
-use Rattle.std.proofs.Common.{◌≡◌, ℕ, [], ◌∷◌, ◌++◌, Option, ap, ◌∙◌, arith}
+use Rattle.std.proofs.Common.{◌≡◌, ℕ, [], ◌∷◌, ◌++◌, Option, ap, ◌∙◌}
 use Rattle.std.specs.Option.{option_to_list}
 use mathlib.Core.Logic.{∥∥₁_elim, ∥∥₁_map}
 use mathlib.Core.Bool.{Bool-set}
@@ -7,9 +7,6 @@ use Rattle.fields.specs.declared.prefixes.PrefixRow.{PrefixRow}
 use Rattle.trie.specs.Strings.{bit_after}
 use Rattle.trie.proofs.Growth.{within, room, node_within, extended_as}
 use Rattle.trie.proofs.nodes.Tables.extend.Goals as goal
-
-pub bit_after-bit-requires : goal.bit_after-bit-requires
-bit_after-bit-requires c = ∥∥₁_elim c.requires.growing le_prop (λ g. let w = c.requires.within in omega (arith, c.args.value.short))
 
 pub unwrap-node-requires : goal.unwrap-node-requires
 unwrap-node-requires c = ∥∥₁_elim c.requires.growing (Bool-set _ _) (λ g. c.pop.ensures.variant.1 (room c.args.self.now c.args.value c.args.parent c.args.depth g c.requires.within))

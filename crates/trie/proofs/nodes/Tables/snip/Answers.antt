@@ -7,20 +7,11 @@ use Rattle.trie.specs.Trees.{at, linked, Trimming}
 use Rattle.trie.proofs.Trimmed.{parent_within, last_within, spare_room, snipped, kept}
 use Rattle.trie.proofs.nodes.Tables.snip.Goals as goal
 
-pub bounds-path-depth : goal.bounds-path-depth
-bounds-path-depth c = ∥∥₁_elim c.requires.trimming le_prop (λ g. omega (arith, g.long))
-
-pub bounds-path-depth-2 : goal.bounds-path-depth-2
-bounds-path-depth-2 c = ∥∥₁_elim c.requires.trimming le_prop (λ g. omega (arith, g.long))
-
 pub bounds-self-last : goal.bounds-self-last
 bounds-self-last c = ∥∥₁_elim c.requires.trimming le_prop (λ g. last_within c.args.self.now c.args.value c.args.path.now c.args.depth g c.requires.within)
 
 pub returns-then-not-is_bare-clause-kept : goal.returns-then-not-is_bare-clause-kept
 returns-then-not-is_bare-clause-kept c = λ _. ∥∥₁_map c.requires.trimming (λ g. kept c.args.self.now c.args.value c.args.path.now c.args.depth g c.requires.within (sym c.is_bare.ensures ∙ c.if-not-is_bare.true))
-
-pub bit_after-requires : goal.bit_after-requires
-bit_after-requires c = ∥∥₁_elim c.requires.trimming le_prop (λ g. let w = c.requires.within in omega (arith, c.args.value.short))
 
 pub bounds-self-parent : goal.bounds-self-parent
 bounds-self-parent c = ∥∥₁_elim c.requires.trimming le_prop (λ g. parent_within c.args.self.now c.args.value c.args.path.now c.args.depth g c.requires.within)
