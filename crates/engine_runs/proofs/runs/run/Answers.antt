@@ -1,4 +1,4 @@
-use Rattle.std.proofs.Common.{◌≡◌, ◌+◌, ◌<◌, List, [], ◌∷◌, ◌++◌, length, take, drop, vec_items, sym, refl, ap, ◌∙◌, subst, append_assoc, append-nil}
+use Rattle.std.proofs.Common.{◌≡◌, ◌+◌, ◌<◌, List, [], ◌∷◌, ◌++◌, length, take, drop, vec_items, sym, ap, ◌∙◌, subst, append_assoc, append-nil}
 use Rattle.std.proofs.lemmas.List.{at_drop_more, at_drop_all}
 use Rattle.std.proofs.lemmas.Result.{IfOk-from_err}
 use Rattle.parts.specs.Meaning.{Meaning, nothing}
@@ -8,18 +8,6 @@ use Rattle.engine_runs.specs.Runs.{answers, after, asked_after, run_answers, run
 use Rattle.engine_runs.proofs.Performed.{run_more}
 use Rattle.engine_runs.proofs.runs.run.Invariants.{kind}
 use Rattle.engine_runs.proofs.runs.run.Goals as goal
-
-pub loop-call-init : goal.loop-call-init
-loop-call-init g c = (
-  nothing,
-  [],
-  c.empty.ensures.held,
-  c.empty.ensures.asked,
-  ap (λ (xs : List (Answer g.row.V.Denot)). xs ++ run_answers (kind g) nothing c.args.calls.now) c.new-answers.ensures.items,
-  refl,
-  refl,
-  refl,
-)
 
 pub loop-call-preserved : goal.loop-call-preserved
 loop-call-preserved g c =

@@ -1,10 +1,8 @@
-use Rattle.std.proofs.Common.{◌≡◌, ◌<◌, List, [], ◌∷◌, ◌++◌, length, take, sym, ap, ◌∙◌, subst, arith, rules}
-use Rattle.std.proofs.lemmas.List.{take_all}
+use Rattle.std.proofs.Common.{◌<◌, List, [], ◌∷◌, ◌++◌, length, take, sym, ap, ◌∙◌, subst, rules}
 use Rattle.std.proofs.lemmas.List.Sums.{fold_more}
 use Rattle.parts.specs.Meaning.{Meaning, nothing}
 use Rattle.stores.specs.declared.pairs.Pair.{Pair}
 use Rattle.stores.specs.Pairs.{pair}
-use Rattle.store_runs.specs.declared.calls.StoreCall.{StoreCall}
 use Rattle.store_runs.specs.declared.calls.StoreCall.TheVariants.{Set}
 use Rattle.store_runs.specs.declared.calls.Reply.{Reply}
 use Rattle.store_runs.specs.Replies.{next, after, replies}
@@ -23,12 +21,3 @@ loop-call-preserved g c =
       c.in_ok-push.ensures.items ∙ ap (λ (rs : List Reply). rs ++ c.perform-reply.result ∷ []) inv.1
           ∙ ap (λ (r : Reply). replies (take i calls) ++ r ∷ []) (told.answered m inv.0) ∙ sym (replies_more calls i (Set 0 (pair 0 0)) l),
     )
-
-pub returns : goal.returns
-returns g c =
-    let calls = c.args.calls.now in
-    let all : take c.loop-call.call-index calls ≡ calls = take_all c.loop-call.call-index calls (omega arith) in
-    record {
-      answered = c.loop-call.invariant.1 ∙ ap replies all;
-      held = subst (λ (cs : List StoreCall). g.S.Told.shows c.loop-call.store (after cs)) all c.loop-call.invariant.0;
-    }
