@@ -3,7 +3,7 @@ use Rattle.std.proofs.Common.{◌≡◌, List, [], ◌∷◌, Decides, arith}
 use Rattle.std.proofs.lemmas.Bool.Decides.{nat_tests, Decides-and, Decides-like}
 use Rattle.filters.specs.Values.{Value, same_value, same_row}
 
-value_decides : (v w : Value) → Decides (same_value v w) (v ≡ w)
+pub value_decides : (v w : Value) → Decides (same_value v w) (v ≡ w)
 value_decides v w = grind (arith, nat_tests)
 
 pub row_decides : (vs ws : List Value) → Decides (same_row vs ws) (vs ≡ ws)

@@ -1,3 +1,4 @@
 pub mod Places
+pub mod Shifting
 pub mod Held
 pub mod Listing

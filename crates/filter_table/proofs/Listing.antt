@@ -13,7 +13,7 @@ filter_is p q (x ∷ xs) h = grind (arith, filter_is p q xs)
 abbrev identifier_of : FilterRow → ℕ
 identifier_of f = f.identifier
 
-write_more : (fs : List FilterRow) (ids list : List ℕ) (f : FilterRow) → length fs < length ids → list ≡ written fs ids → set list (length fs) f.identifier ≡ written (fs ++ f ∷ []) ids
+pub write_more : (fs : List FilterRow) (ids list : List ℕ) (f : FilterRow) → length fs < length ids → list ≡ written fs ids → set list (length fs) f.identifier ≡ written (fs ++ f ∷ []) ids
 write_more fs ids list f l e =
     ap (λ (q : List ℕ). set q (length fs) f.identifier) (e ∙ ap (λ (q : List ℕ). map identifier_of fs ++ q) (drop_more ids (length fs) 0 l))
     ∙ set_at (map identifier_of fs) (get_or ids (length fs) 0) (drop (length fs + 1) ids) f.identifier (length fs) (length-map fs identifier_of)

@@ -1,4 +1,5 @@
 #![tactic(auto)]
 
 pub mod lists;
+pub mod shifts;
 pub mod table;

@@ -1,2 +1,2 @@
-mod Counting
-mod Sieving
+pub mod Counting
+pub mod Sieving

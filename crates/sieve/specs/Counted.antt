@@ -2,6 +2,8 @@
 use Rattle.std.specs.Prelude.{◌≡◌, ℕ, ◌+◌, ◌-◌, ◌<◌, min, Bool, cond, List, [], ◌∷◌, Some, None, count_by, Option, nat_lt, slice_index, slice_set}
 use Rattle.parts.specs.Marks.{hit}
 use Rattle.stores.specs.declared.pairs.Pair.{Pair}
+use Rattle.sieve.specs.declared.counters.Change.{Change}
+use Rattle.sieve.specs.declared.counters.Change.TheVariants.{Up, Down}
 use Rattle.sieve.specs.Touched.{touched, has, every}
 
 -- a counter is the number of held pairs that touch it
@@ -26,6 +28,10 @@ one_more n = min (n + 1) 255
 
 abbrev pub one_fewer : ℕ → ℕ
 one_fewer n = n - 1
+
+abbrev pub changed : Change → ℕ → ℕ
+changed Up = one_more
+changed Down = one_fewer
 
 -- a step that answers so at each count
 abbrev pub Gives : (ℕ → ℕ → Type 0) → (ℕ → ℕ) → Type 0

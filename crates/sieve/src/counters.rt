@@ -2,7 +2,7 @@
 ghost use Rattle.std.specs.Prelude.{◌≡◌, ℕ, ltb, List, [], ◌∷◌, if◌then◌else◌, Some, None, nat_lt, slice_index};
 ghost use Rattle.stores.specs.Pairs.{pair as pair_of};
 ghost use Rattle.sieve.specs.Touched.{counter as counter_of, has, spread as spread_of, slots as slots_of, touched as touched_by, listed, Apart, every};
-ghost use Rattle.sieve.specs.Counted.{Gives, change_at, change_all};
+ghost use Rattle.sieve.specs.Counted.{Gives, changed, change_at, change_all};
 
 use stores::pairs::Pair;
 
@@ -11,6 +11,13 @@ pub const COUNTERS: usize = 512;
 
 // Each of these spreads a pair's code over the counters.
 const MULTIPLIERS: [u16; 4] = [5, 37, 211, 1009];
+
+// One pair more that touches a counter, or one fewer.
+#[derive(Clone, Copy)]
+pub enum Change {
+    Up,
+    Down,
+}
 
 fn counter(pair: Pair, multiplier: u16) -> u16
     ensures { result ≡ counter_of pair multiplier }
@@ -48,13 +55,23 @@ fn count_at<F: Fn(u8) -> u8>(counters: &mut [u8; COUNTERS], slot: Option<u16>, s
     }
 }
 
-// Takes a step at each counter that a pair touches: one more, where the pair is counted in, or one fewer.
-pub fn count_pair<F: Fn(u8) -> u8>(counters: &mut [u8; COUNTERS], slots: &[Option<u16>; 4], step: F)
+// Takes a step at each counter listed.
+fn count_each<F: Fn(u8) -> u8>(counters: &mut [u8; COUNTERS], slots: &[Option<u16>; 4], step: F)
     requires { F.IsAlwaysCallable step }
     ensures { (change : ℕ → ℕ) → Gives (F.post step) change → counters.new ≡ change_all change slots.now counters.old }
 {
     for slot in slots {
         count_at(counters, *slot, &step);
+    }
+}
+
+// Counts a pair in or out, at each counter that it touches.
+pub fn count_pair(counters: &mut [u8; COUNTERS], slots: &[Option<u16>; 4], by: Change)
+    ensures { counters.new ≡ change_all (changed by) slots.now counters.old }
+{
+    match by {
+        Change::Up => count_each(counters, slots, |count| count.saturating_add(1)),
+        Change::Down => count_each(counters, slots, |count| count.saturating_sub(1)),
     }
 }
 

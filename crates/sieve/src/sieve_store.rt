@@ -10,7 +10,7 @@ ghost use Rattle.sieve.specs.Counted.{count_of, passing, above, questions};
 ghost use Rattle.sieve.specs.Sieved.{Shows};
 ghost use Rattle.sieve.specs.Proper.{sieved_proper};
 
-use crate::counters::{COUNTERS, all_above, count_pair, touched};
+use crate::counters::{COUNTERS, Change, all_above, count_pair, touched};
 use fields::faults::Fault;
 use parts::checks::check_labels;
 use parts::told::Told;
@@ -102,14 +102,14 @@ impl<S: Store> Told<Pair> for Sieve<S> {
     fn set(&mut self, place: u8, value: Pair) -> Result<(), Fault> {
         self.below.set(place, value)?;
         let slots = touched(value);
-        count_pair(&mut self.counters, &slots, |count| count.saturating_add(1));
+        count_pair(&mut self.counters, &slots, Change::Up);
         Ok(())
     }
 
     fn clear(&mut self, place: u8) -> Result<Pair, Fault> {
         let pair = self.below.clear(place)?;
         let slots = touched(pair);
-        count_pair(&mut self.counters, &slots, |count| count.saturating_sub(1));
+        count_pair(&mut self.counters, &slots, Change::Down);
         Ok(pair)
     }
 }

@@ -1,4 +1,4 @@
-use Rattle.std.proofs.Common.{◌≡◌, ℕ, List, get_or, Some, None, Option, sym, ap, ◌∙◌, subst, rules}
+use Rattle.std.proofs.Common.{◌≡◌, ℕ, List, get_or, Some, None, Option, sym, ap, ◌∙◌, subst}
 use Rattle.parts.specs.Meaning.{Meaning, meaning, find, set_fault, put}
 use Rattle.stores.specs.declared.pairs.Pair.{Pair}
 use Rattle.stores.specs.Pairs.{same_pair, pair_labels}
@@ -18,7 +18,7 @@ returns-clause-held g c m h =
     let f = c.in_ok-set.ensures in
     let b = c.set.new.self in
     let below = meaning m.places h.asked_below in
-    let counters-is : c.count_pair.new.counters ≡ change_all one_more (slots v) s.counters = c.count_pair.ensures one_more (λ n r b h. search rules) ∙ ap (λ (os : List (Option ℕ)). change_all one_more os s.counters) c.touched-slots.ensures.slots in
+    let counters-is : c.count_pair.new.counters ≡ change_all one_more (slots v) s.counters = c.count_pair.ensures ∙ ap (λ (os : List (Option ℕ)). change_all one_more os s.counters) c.touched-slots.ensures.slots in
     let none = answer_ok (set_fault same_pair pair_labels m.places l v) tt tt (sym (f.result below h.holds)) in
     let ok = accepted l v (get_or m.places l None) (find same_pair m.places v) none in
     subst (λ (n : Meaning Pair). Sieved shows b c.count_pair.new.counters s.asked n) (sym (set_done m l v none))

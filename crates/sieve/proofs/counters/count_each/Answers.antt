@@ -1,7 +1,7 @@
 use Rattle.std.proofs.Common.{◌≡◌, ℕ, ◌+◌, ◌<◌, List, length, get_or, drop, None, sym, ap, ◌∙◌, arith}
 use Rattle.std.proofs.lemmas.List.{at_drop_more}
 use Rattle.sieve.specs.Counted.{change_at, change_all}
-use Rattle.sieve.proofs.counters.count_pair.Goals as goal
+use Rattle.sieve.proofs.counters.count_each.Goals as goal
 
 pub loop-slot-preserved : goal.loop-slot-preserved
 loop-slot-preserved g c change by =

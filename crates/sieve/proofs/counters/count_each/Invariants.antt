@@ -1,6 +1,6 @@
 use Rattle.std.proofs.Common.{◌≡◌, ℕ, drop}
 use Rattle.sieve.specs.Counted.{Gives, change_all}
-use Rattle.sieve.proofs.counters.count_pair.Given as goal
+use Rattle.sieve.proofs.counters.count_each.Given as goal
 
 -- the slots that are left are still to be counted
 abbrev pub invariant-loop-slot : goal.invariant-loop-slot
