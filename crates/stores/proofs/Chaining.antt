@@ -55,7 +55,7 @@ at_other k j o e n = ap (λ (x : Option ℕ). cond (at nat_eq k x) 1 0) e ∙ ap
 pub chain_short : (hs ns keys : List (Option ℕ)) (k : ℕ) → length keys ≡ 96 → (c : Chain hs ns keys k) → length c.order ≤ 96
 chain_short hs ns keys k l c = omega (arith, c.long, count_by-le-length (at nat_eq k) keys)
 
-held_once : (hs ns keys : List (Option ℕ)) (k p : ℕ) (c : Chain hs ns keys k) → slice_index_or keys p None ≡ Some k → 0 < times p c.order
+pub held_once : (hs ns keys : List (Option ℕ)) (k p : ℕ) (c : Chain hs ns keys k) → slice_index_or keys p None ≡ Some k → 0 < times p c.order
 held_once hs ns keys k p c h = omega (arith, c.exact p, at_some k k (slice_index_or keys p None) h refl)
 
 pub linked : (hs ns keys : List (Option ℕ)) (k p : ℕ) → Chained hs ns keys → k < 96 → p < 96 → slice_index_or keys p None ≡ None
@@ -148,7 +148,7 @@ at_most true = omega arith
 at_most false = omega arith
 
 -- the place stands after another of its chain
-unlinked_after : (hs ns keys : List (Option ℕ)) (k p : ℕ) (c : Chained hs ns keys) (front : List ℕ) (here : ℕ) (back : List ℕ) → slice_index_or keys p None ≡ Some k → (c.chain k).order ≡ front ++ here ∷ p ∷ back
+pub unlinked_after : (hs ns keys : List (Option ℕ)) (k p : ℕ) (c : Chained hs ns keys) (front : List ℕ) (here : ℕ) (back : List ℕ) → slice_index_or keys p None ≡ Some k → (c.chain k).order ≡ front ++ here ∷ p ∷ back
     → Chained hs (slice_set ns here (slice_index_or ns p None)) (slice_set keys p None)
 unlinked_after hs ns keys k p c front here back held e =
     let d = c.chain k in

@@ -51,6 +51,9 @@ pub type ListStore = ChainStore<ByLeft>;
 impl<K: ChainKey> Index for ChainIndex<K> {
     ghost leads = { ChainLeads K.ChainKey.key };
 
+    // by the chain of the pair's key and no other
+    ghost reached = { λ s places pair found. Walked K.ChainKey.key s.chains places pair found };
+
     fn empty(&mut self) {
         self.chains = Chains::empty();
     }
@@ -63,12 +66,7 @@ impl<K: ChainKey> Index for ChainIndex<K> {
         self.chains.unlink(K::key_of(pair), place);
     }
 
-    // It walks the chain of the pair's key and no other.
-    fn find(&self, pairs: &[Option<Pair>; PLACES], pair: Pair) -> Option<u8>
-        ensures found { Placed pairs.now → ChainLeads K.ChainKey.key self.now pairs.now → Within pair → result ≡ label_of same_pair pairs.now pair }
-        ensures below { IfSome result (λ l. l < 96) }
-        ensures walked { Placed pairs.now → ChainLeads K.ChainKey.key self.now pairs.now → Walked K.ChainKey.key self.now.chains pairs.now pair result }
-    {
+    fn find(&self, pairs: &[Option<Pair>; PLACES], pair: Pair) -> Option<u8> {
         self.chains.find(K::key_of(pair), pairs, pair)
     }
 }
@@ -84,12 +82,12 @@ impl<K: ChainKey> IndexedStore<ChainIndex<K>> {
         })
     }
 
-    // The label of a pair. It is `look_up` with one promise more: that no other chain than the one of the pair's key is walked.
+    // The label of a pair, as a store is asked for it: no other chain than the one of the pair's key is walked.
     pub fn walk(&self, pair: Pair) -> Option<u8>
         ensures walked { (m : Meaning Pair) → Shows (ChainLeads K.ChainKey.key) self.now m → Walked K.ChainKey.key self.now.index.chains m.places pair result }
         ensures found { (m : Meaning Pair) → Shows (ChainLeads K.ChainKey.key) self.now m → result ≡ label_of same_pair m.places pair }
         ensures below { IfSome result (λ l. l < 96) }
     {
-        self.index.find(&self.pairs, pair)
+        self.look_up(pair)
     }
 }

@@ -1,8 +1,9 @@
 // The grid store: a cell for each pair.
-ghost use Rattle.std.specs.Prelude.{◌≡◌, IfSome};
+ghost use Rattle.std.specs.Prelude.{◌≡◌, IfSome, Some, None, slice_index_or};
 ghost use Rattle.parts.specs.Meaning.{nothing};
 ghost use Rattle.stores.specs.Stored.{Shows};
 ghost use Rattle.stores.specs.Cells.{CellsLead};
+ghost use Rattle.stores.specs.Pairs.{code as code_of};
 
 use crate::index::Index;
 use crate::indexed::IndexedStore;
@@ -22,6 +23,9 @@ pub type GridStore = IndexedStore<Grid>;
 
 impl Index for Grid {
     ghost leads = { CellsLead };
+
+    // by the cell of the pair: a label found is the one in it
+    ghost reached = { λ s places pair found. IfSome found (λ l. slice_index_or s.cells (code_of pair) None ≡ Some l) };
 
     fn empty(&mut self) {
         self.cells = [None; CELLS];

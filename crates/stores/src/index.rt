@@ -1,5 +1,5 @@
 // How a store finds the place of a pair that it holds.
-ghost use Rattle.std.specs.Prelude.{◌≡◌, ◌<◌, List, replicate, IfSome, Some, None, Option, slice_index_or, slice_set};
+ghost use Rattle.std.specs.Prelude.{◌≡◌, ℕ, ◌<◌, List, replicate, IfSome, Some, None, Option, slice_index_or, slice_set};
 ghost use Rattle.parts.specs.Meaning.{find as label_of};
 ghost use Rattle.stores.specs.declared.pairs.Pair.{Pair};
 ghost use Rattle.stores.specs.Pairs.{same_pair, Within};
@@ -11,6 +11,9 @@ use parts::marks::PLACES;
 pub trait Index {
     // the index leads to each pair that these places hold
     ghost leads: { Self → List (Option Pair) → Type 0 };
+
+    // how the index came to a label, or to none, among these places
+    ghost reached: { Self → List (Option Pair) → Pair → Option ℕ → Type 0 };
 
     // It leads nowhere. An index is emptied and not made, since a maker of chains takes their key from the caller.
     fn empty(&mut self)
@@ -27,5 +30,6 @@ pub trait Index {
     // The label of a pair: a plain number, as in the lists of labels, so its bound is said here.
     fn find(&self, pairs: &[Option<Pair>; PLACES], pair: Pair) -> Option<u8>
         ensures found { Placed pairs.now → leads self.now pairs.now → Within pair → result ≡ label_of same_pair pairs.now pair }
-        ensures below { IfSome result (λ l. l < 96) };
+        ensures below { IfSome result (λ l. l < 96) }
+        ensures reached { Placed pairs.now → leads self.now pairs.now → reached self.now pairs.now pair result };
 }

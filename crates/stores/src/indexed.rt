@@ -45,10 +45,11 @@ impl<I: Index> IndexedStore<I> {
         self.asked
     }
 
-    // The label of a pair, by the index.
+    // The label of a pair, by the index, and how the index came to it. Set and find look a pair up by this.
     pub fn look_up(&self, pair: Pair) -> Option<u8>
         ensures found { (m : Meaning Pair) → Shows I.Index.leads self.now m → Within pair → result ≡ label_of same_pair m.places pair }
         ensures below { IfSome result (λ l. l < 96) }
+        ensures reached { (m : Meaning Pair) → Shows I.Index.leads self.now m → I.Index.reached self.now.index m.places pair result }
     {
         self.index.find(&self.pairs, pair)
     }
