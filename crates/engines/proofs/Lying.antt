@@ -5,7 +5,7 @@ use Rattle.std.proofs.lemmas.Grind.{common_steps}
 use Rattle.engines.specs.Tables.{Idle, Lies}
 use Rattle.engines.proofs.Meanings.{none_held, set_at}
 
-none_full : (n l : ℕ) → get_or (replicate n false) l false ≡ false
+pub none_full : (n l : ℕ) → get_or (replicate n false) l false ≡ false
 none_full n l = grind (arith, common_steps)
 
 pub idle_none : Idle (replicate 96 false) 0

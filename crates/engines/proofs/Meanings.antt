@@ -56,6 +56,11 @@ clear_allowed l (Some w) v e = grind (arith, nat_tests)
 pub set_told : {V : Type 0} (eq : V → V → Bool) (labels : V → List ℕ) (xs : List (Option V)) (l : ℕ) (v : V) → labels v ≡ [] → (held : Option V) (found : Option ℕ) → held ≡ get_or xs l None → found ≡ find eq xs v → set_refusal l [] held found ≡ set_fault eq labels xs l v
 set_told eq labels xs l v bare held found h f = cc
 
+-- what is refused before the value is looked for is refused alike, wherever it is found
+pub refused_unfound : {A V : Type 0} (l : ℕ) (held : Option V) (found : Option ℕ) (a : A) (e : Fault) → answer (set_refusal l [] held None) a ≡ Err e → answer (set_refusal l [] held found) a ≡ Err e
+refused_unfound l None found a e h = grind (arith, nat_tests)
+refused_unfound l (Some v) found a e h = grind (arith, nat_tests)
+
 pub clear_refused : {V : Type 0} (m : Meaning V) (l : ℕ) (e : Fault) → length m.places ≡ 96 → cleared m.places l ≡ Err e → m ≡ put m l None
 clear_refused {V} m l e n r = ap (λ (xs : List (Option V)). meaning xs m.asked) (grind (arith, nat_tests, set-get_or m.places l None, get_or_past m.places l None))
 

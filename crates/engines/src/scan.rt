@@ -81,6 +81,8 @@ impl<R: Copy, T: Rows<R>, V: Kind<Row = R>> Told<V> for Scan<R, T> {
         let at = place as usize;
         let rows = self.table.rows();
         let held = held::<R, V>(rows, &self.used, at);
+        // a call that is refused for its place searches nothing
+        check_set(place, &[], held, None)?;
         check_set(place, &[], held, place_of(rows, &self.used, value))?;
         self.table.put(at, value.row());
         self.used.fill(at);

@@ -8,7 +8,6 @@ ghost use Rattle.engines.specs.Tables.{Lies};
 use crate::used::Used;
 use fields::kinds::Kind;
 use parts::marks::PLACES;
-use std::array;
 
 // What a place holds: the value of its row, formed by the same check as at first.
 pub fn held<R: Copy, V: Kind<Row = R>>(rows: &[R], used: &Used, place: usize) -> Option<V>
@@ -35,5 +34,10 @@ pub fn satisfied_marks<R: Copy, V: Kind<Row = R>>(
 ) -> [bool; PLACES]
     ensures { (xs : List (Option V)) → Lies V.Kind.plain rows.now used.now.full xs → result ≡ map (hit (λ v. V.Kind.satisfied v number)) xs }
 {
-    array::from_fn(|place| held::<R, V>(rows, used, place).is_some_and(|value| value.takes(number)))
+    let mut marks = [false; PLACES];
+    // only places below the top can be full
+    for place in 0..used.top() as usize {
+        marks[place] = held::<R, V>(rows, used, place).is_some_and(|value| value.takes(number));
+    }
+    marks
 }

@@ -9,6 +9,7 @@ use Rattle.trie.specs.Trees.{no_node, at, child, Whole, Shape, Stack, Named, Lis
 use native.Mathlib.Nat.{div-add-mod}
 use Rattle.std.proofs.lemmas.Nat.{shr-shr, mod_below}
 use Rattle.trie.specs.Bitstrings.{shift_none, same_parent}
+use Rattle.trie.proofs.Children.{child_taken, child_off}
 use Rattle.trie.specs.Counting.{among_end, distinct_more, without, without_length, without_keeps, without_only, without_gone, without_distinct}
 
 -- the bare leaf n, the child of i at the bit b, becomes free
@@ -49,10 +50,10 @@ module _ (key : ℕ → ℕ) (nodes : List Node) (n i b : ℕ) (s : Shape key no
   cut_edge : (j d : ℕ) → ((j ≡ i) × (d ≡ b) × (child (at cut j) d ≡ None)) ⊎ ((child (at cut j) d ≡ child (at nodes j) d) × (j ≡ i → d ≡ b → ⊥))
   cut_edge j d = ⊎_elim
       (λ (e : d ≡ b). ⊎_elim
-      (λ (w : j ≡ i). inl (w, e, ap (λ (k : ℕ). child (at cut k) d) w ∙ ap (λ (m : Node). child m d) cut_here ∙ ap (child (linked (at nodes i) b None)) e ∙ get_or-set_same (at nodes i).children b None None (omega (arith, s.both i li))))
+      (λ (w : j ≡ i). inl (w, e, ap (λ (k : ℕ). child (at cut k) d) w ∙ ap (λ (m : Node). child m d) cut_here ∙ ap (child (linked (at nodes i) b None)) e ∙ child_taken (at nodes i) b (omega (arith, s.both i li))))
       (λ (ne : j ≡ i → ⊥). inr (ap (λ (m : Node). child m d) (get_or-set_other nodes i j (linked (at nodes i) b None) no_node ne), λ w _. ne w))
       (cases_eq j i))
-      (λ (ne : d ≡ b → ⊥). inr (cut_part (λ m. child m d) (get_or-set_other (at nodes i).children b d None None ne) j, λ _ w. ne w))
+      (λ (ne : d ≡ b → ⊥). inr (cut_part (λ m. child m d) (child_off (at nodes i) b d None ne) j, λ _ w. ne w))
       (cases_eq d b)
 
   alive : 0 < key n
@@ -88,7 +89,7 @@ module _ (key : ℕ → ℕ) (nodes : List Node) (n i b : ℕ) (s : Shape key no
   pub pruned : Shape less cut
   pruned = record {
     size = length-set nodes i (linked (at nodes i) b None) ∙ s.size;
-    both = λ j lj. cut_part (λ x. length x.children) (length-set (at nodes i).children b None) j ∙ s.both j (was j lj).1;
+    both = λ j lj. cut_part (λ x. length x.children) (length-set (at nodes i).children b 0) j ∙ s.both j (was j lj).1;
     bound = λ j lj. s.bound j (was j lj).1;
     root = less_away 0 (λ e. omega (arith, pn)) ∙ s.root;
     next = λ j d c ld lj p. ⊎_elim

@@ -8,6 +8,7 @@ use Rattle.trie.specs.Strings.{Among}
 use Rattle.trie.specs.Trees.{blank, no_node, at, child, Whole, Shape, Stack, Named, Listed, is, linked}
 use Rattle.trie.specs.Bitstrings.{shorter, shift_in, shift_none, same_parent}
 use Rattle.trie.specs.Counting.{among_front, distinct_front}
+use Rattle.trie.proofs.Children.{child_given, child_off}
 
 pub blank_leaf : (d : ℕ) → child blank d ≡ None
 blank_leaf zero = refl
@@ -62,10 +63,10 @@ module _ (key : ℕ → ℕ) (nodes : List Node) (n i b : ℕ) (s : Shape key no
   edge : (j d : ℕ) → 0 < key j → ((j ≡ i) × (d ≡ b) × (child (at two j) d ≡ Some n)) ⊎ (child (at two j) d ≡ child (at nodes j) d)
   edge j d h = ⊎_elim
       (λ (e : d ≡ b). ⊎_elim
-      (λ (w : j ≡ i). inl (w, e, ap (λ (k : ℕ). child (at two k) d) w ∙ ap (λ (m : Node). child m d) here ∙ ap (child (linked (at nodes i) b (Some n))) e ∙ get_or-set_same (at nodes i).children b (Some n) None (omega (arith, s.both i li))))
+      (λ (w : j ≡ i). inl (w, e, ap (λ (k : ℕ). child (at two k) d) w ∙ ap (λ (m : Node). child m d) here ∙ ap (child (linked (at nodes i) b (Some n))) e ∙ child_given (at nodes i) b n (omega (arith, s.both i li)) pn))
       (λ (ne : j ≡ i → ⊥). inr (ap (λ (m : Node). child m d) (get_or-set_other one i j (linked (at nodes i) b (Some n)) no_node ne ∙ off j h)))
       (cases_eq j i))
-      (λ (ne : d ≡ b → ⊥). inr (part (λ m. child m d) (get_or-set_other (at nodes i).children b d (Some n) None ne) j h))
+      (λ (ne : d ≡ b → ⊥). inr (part (λ m. child m d) (child_off (at nodes i) b d (Some n) ne) j h))
       (cases_eq d b)
 
   old_or_new : (j : ℕ) → 0 < key' j → (0 < key j) ⊎ (j ≡ n)
@@ -91,7 +92,7 @@ module _ (key : ℕ → ℕ) (nodes : List Node) (n i b : ℕ) (s : Shape key no
       (λ (q : child (at two j) d ≡ child (at nodes j) d).
       let r = same_parent (key i) (key' j) d b ld lb (sym (shift_none v) ∙ e) in
       let same : j ≡ i = s.single j i h li (sym (old_key j h) ∙ sym r.0) in
-      let u : child (at two i) b ≡ Some n = ap (λ (m : Node). child m b) here ∙ get_or-set_same (at nodes i).children b (Some n) None (omega (arith, s.both i li)) in
+      let u : child (at two i) b ≡ Some n = ap (λ (m : Node). child m b) here ∙ child_given (at nodes i) b n (omega (arith, s.both i li)) pn in
       let t : child (at two j) d ≡ Some n = ap (λ (k : ℕ). child (at two k) d) same ∙ ap (child (at two i)) (sym r.1) ∙ u in
       absurd (none-some n (sym z ∙ t)))
       (edge j d h))
@@ -107,7 +108,7 @@ module _ (key : ℕ → ℕ) (nodes : List Node) (n i b : ℕ) (s : Shape key no
   grown = record {
     size = length-set one i (linked (at nodes i) b (Some n)) ∙ length-set nodes n blank ∙ s.size;
     both = λ j lj. ⊎_elim
-        (λ (h : 0 < key j). part (λ x. length x.children) (length-set (at nodes i).children b (Some n)) j h ∙ s.both j h)
+        (λ (h : 0 < key j). part (λ x. length x.children) (length-set (at nodes i).children b n) j h ∙ s.both j h)
         (λ (h : j ≡ n). ap (λ (k : ℕ). length (at two k).children) h ∙ ap (λ (x : Node). length x.children) made)
         (old_or_new j lj);
     bound = λ j lj. ⊎_elim (λ (h : 0 < key j). s.bound j h) (λ (h : j ≡ n). omega arith) (old_or_new j lj);

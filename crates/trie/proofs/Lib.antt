@@ -1,3 +1,4 @@
+pub mod Children
 pub mod Grown
 pub mod Freed
 pub mod Begun

@@ -1,8 +1,8 @@
 -- A prefix loses its label and then, from the last up, the nodes that nothing needs.
-use Rattle.std.proofs.Common.{◌≡◌, ℕ, ◌+◌, ◌*◌, ◌<◌, ◌≤◌, true, false, cond, eqb, zero, suc, ◌⊎◌, List, [], ◌∷◌, ◌++◌, length, get_or, set, Some, None, Option, sym, refl, ap, ◌∙◌, subst, inl, inr, ⊎_elim, arith, length-set, length-append}
+use Rattle.std.proofs.Common.{◌≡◌, ℕ, ◌+◌, ◌*◌, ◌<◌, ◌≤◌, Bool, true, false, cond, eqb, zero, suc, ◌⊎◌, List, [], ◌∷◌, ◌++◌, length, get_or, set, Some, None, Option, sym, refl, ap, ◌∙◌, subst, inl, inr, ⊎_elim, arith, length-set, length-append}
 use mathlib.Core.Logic.{∥∥₁_elim, ∥∥₁_map}
 use native.Mathlib.Bridge.{le_prop}
-use Rattle.std.proofs.lemmas.Bool.{cases_lt, eqb-true, eq-eqb, and_parts, and_cases}
+use Rattle.std.proofs.lemmas.Bool.{cases_lt, cond-true, cond-false, eqb-true, eq-eqb, and_parts, and_cases}
 use Rattle.std.specs.List.{list_all}
 use Rattle.std.specs.Prelude.{is_none}
 use Rattle.arrayvec.specs.ArrayVec.{ArrayVec}
@@ -11,7 +11,7 @@ use Rattle.fields.specs.declared.prefixes.PrefixRow.{PrefixRow}
 use Rattle.trie.specs.declared.nodes.Node.{Node}
 use Rattle.trie.specs.declared.nodes.Tables.{Tables}
 use Rattle.trie.specs.Strings.{string, bit_after, code, codes, first_strings, beginnings, Among, Begins}
-use Rattle.trie.specs.Trees.{at, child, linked, labelled, is, bare, Stack, Listed, Good, Walked, Trimming}
+use Rattle.trie.specs.Trees.{at, present, child, linked, labelled, is, bare, Stack, Listed, Good, Walked, Trimming}
 use Rattle.trie.specs.Bitstrings.{shift_none, string_pos, bit_below, string_more, same_length, among_strings, strings_among}
 use Rattle.trie.specs.Counting.{without}
 use Rattle.trie.specs.Uses.{some_or_none}
@@ -86,28 +86,31 @@ some_is : (o : Option ℕ) → is_none o ≡ false → (x : ℕ) × (o ≡ Some 
 some_is None h = absurd (let z : ◌≡◌ {A = ℕ} 0 1 = cc in omega arith)
 some_is (Some x) h = (x, refl)
 
-all_none_at : (xs : List (Option ℕ)) → list_all is_none xs ≡ true → (d : ℕ) → get_or xs d None ≡ None
-all_none_at [] h d = refl
-all_none_at (x ∷ xs) h zero = none_is x (and_parts (is_none x) (list_all is_none xs) h).0
-all_none_at (x ∷ xs) h (suc d) = all_none_at xs (and_parts (is_none x) (list_all is_none xs) h).1 d
+abbrev no_child : ℕ → Bool
+no_child c = eqb c 0
 
-some_at : (xs : List (Option ℕ)) → list_all is_none xs ≡ false → (d c : ℕ) × (d < length xs) × (get_or xs d None ≡ Some c)
+all_none_at : (xs : List ℕ) → list_all no_child xs ≡ true → (d : ℕ) → present (get_or xs d 0) ≡ None
+all_none_at [] h d = refl
+all_none_at (x ∷ xs) h zero = cond-true (no_child x) None (Some x) (and_parts (no_child x) (list_all no_child xs) h).0
+all_none_at (x ∷ xs) h (suc d) = all_none_at xs (and_parts (no_child x) (list_all no_child xs) h).1 d
+
+some_at : (xs : List ℕ) → list_all no_child xs ≡ false → (d c : ℕ) × (d < length xs) × (present (get_or xs d 0) ≡ Some c)
 some_at [] h = absurd (let z : ◌≡◌ {A = ℕ} 0 1 = cc in omega arith)
 some_at (x ∷ xs) h = ⊎_elim
-    (λ (e : is_none x ≡ false). let r = some_is x e in (0, r.0, omega arith, r.1))
-    (λ (e : list_all is_none xs ≡ false). let r = some_at xs e in (suc r.0, r.1, omega (arith, r.2), r.3))
-    (and_cases (is_none x) (list_all is_none xs) h)
+    (λ (e : no_child x ≡ false). (0, x, omega arith, cond-false (no_child x) None (Some x) e))
+    (λ (e : list_all no_child xs ≡ false). let r = some_at xs e in (suc r.0, r.1, omega (arith, r.2), r.3))
+    (and_cases (no_child x) (list_all no_child xs) h)
 
 bare_leaf : (m : Node) → bare m ≡ true → (m.label ≡ None) × ((d : ℕ) → child m d ≡ None)
 bare_leaf m h =
-    let r = and_parts (is_none m.label) (list_all is_none m.children) h in
+    let r = and_parts (is_none m.label) (list_all no_child m.children) h in
     (none_is m.label r.0, all_none_at m.children r.1)
 
 not_bare : (m : Node) → length m.children ≡ 2 → bare m ≡ false → ((l : ℕ) × (m.label ≡ Some l)) ⊎ ((d c : ℕ) × (d < 2) × (child m d ≡ Some c))
 not_bare m two h = ⊎_elim
     (λ (x : is_none m.label ≡ false). inl (some_is m.label x))
-    (λ (y : list_all is_none m.children ≡ false). let r = some_at m.children y in inr (r.0, r.1, omega (arith, r.2), r.3))
-    (and_cases (is_none m.label) (list_all is_none m.children) h)
+    (λ (y : list_all no_child m.children ≡ false). let r = some_at m.children y in inr (r.0, r.1, omega (arith, r.2), r.3))
+    (and_cases (is_none m.label) (list_all no_child m.children) h)
 
 none_listed : (ks : List ℕ) (v : ℕ) → length ks ≡ 0 → Among v ks → ⊥
 none_listed [] v e h = h

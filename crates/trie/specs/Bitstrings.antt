@@ -84,7 +84,7 @@ agree_shorter a b k j lk lj e = sym (string_shift a j k lj lk) ∙ ap (λ (x : �
 row_same : (p q : PrefixRow) → p.address ≡ q.address → p.length ≡ q.length → p ≡ q
 row_same p q e f = λ i. record { address = e i; length = f i }
 
-code_same : (p q : Prefix) → code (Some p) ≡ code (Some q) → p ≡ q
+pub code_same : (p q : Prefix) → code (Some p) ≡ code (Some q) → p ≡ q
 code_same p q e =
     let a = p.row.address in
     let b = q.row.address in

@@ -1,5 +1,5 @@
 -- What the tables of a trie mean. Which bit string a node stands for is its key, and 0 says that the node is free; keys are not kept in memory.
-use Rattle.std.specs.Prelude.{◌≡◌, ℕ, ◌+◌, ◌*◌, ◌/◌, ◌^◌, ◌<◌, ◌≤◌, Bool, false, ◌&&◌, ◌⊎◌, List, [], ◌∷◌, length, Some, None, Option, ◌==◌, ◌≢◌, slice_index, slice_index_or, slice_set, is_none}
+use Rattle.std.specs.Prelude.{◌≡◌, ℕ, ◌+◌, ◌*◌, ◌/◌, ◌^◌, ◌<◌, ◌≤◌, Bool, false, cond, ◌&&◌, ◌⊎◌, List, [], ◌∷◌, length, Some, None, Option, ◌==◌, ◌≢◌, slice_index, slice_index_or, slice_set, is_none}
 use Rattle.std.specs.List.{list_all}
 use Rattle.fields.specs.declared.prefixes.Prefix.{Prefix}
 use Rattle.parts.specs.Meaning.{place_count}
@@ -20,7 +20,7 @@ node_count = below_root + 1
 -- nodes, their children and labels
 
 abbrev pub blank : Node
-blank = record { label = None; children = None ∷ None ∷ [] }
+blank = record { label = None; children = 0 ∷ 0 ∷ [] }
 
 abbrev pub no_node : Node
 no_node = record { label = None; children = [] }
@@ -28,12 +28,20 @@ no_node = record { label = None; children = [] }
 abbrev pub at : List Node → ℕ → Node
 at nodes i = slice_index_or nodes i no_node
 
+-- a child is kept as its number; node 0 is the root, and nobody's child, so 0 is none
+abbrev pub present : ℕ → Option ℕ
+present c = cond (c == 0) None (Some c)
+
+abbrev pub number_of : Option ℕ → ℕ
+number_of None = 0
+number_of (Some c) = c
+
 -- the child on a bit, if there is one
 abbrev pub child : Node → ℕ → Option ℕ
-child node b = slice_index_or node.children b None
+child node b = present (slice_index_or node.children b 0)
 
 abbrev pub linked : Node → ℕ → Option ℕ → Node
-linked n b c = record { label = n.label; children = slice_set n.children b c }
+linked n b c = record { label = n.label; children = slice_set n.children b (number_of c) }
 
 abbrev pub labelled : Node → Option ℕ → Node
 labelled n o = record { label = o; children = n.children }
@@ -44,7 +52,7 @@ is (Some m) l = m == l
 
 -- neither label nor child
 abbrev pub bare : Node → Bool
-bare n = is_none n.label && list_all is_none n.children
+bare n = is_none n.label && list_all (λ c. c == 0) n.children
 
 -- no node in use lacks a child on the way to v
 abbrev pub Whole : (ℕ → ℕ) → List Node → ℕ → Type 0

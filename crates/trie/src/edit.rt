@@ -21,7 +21,7 @@ impl Tables {
         let bit = bit_after(value.row().address, depth);
         let node = self.free.pop().unwrap();
         self.nodes[node as usize] = Node::BLANK;
-        self.nodes[parent as usize].children[bit] = Some(node);
+        self.nodes[parent as usize].children[bit] = node;
         node
     }
 
@@ -53,7 +53,7 @@ impl Tables {
         if !self.nodes[last as usize].is_bare() {
             return false;
         }
-        self.nodes[parent].children[bit_after(value.row().address, depth)] = None;
+        self.nodes[parent].children[bit_after(value.row().address, depth)] = 0;
         self.free.push(last);
         true
     }

@@ -72,6 +72,8 @@ impl Told<Prefix> for Trie {
     }
 
     fn set(&mut self, place: u8, value: Prefix) -> Result<(), Fault> {
+        // a call that is refused for its place walks nothing
+        check_set(place, &[], self.tree.held(place), None)?;
         let row = value.row();
         let path = self.tree.walk(row.address, row.length);
         let path = path.as_slice();

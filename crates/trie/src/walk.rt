@@ -31,7 +31,7 @@ impl Tree {
         // the depth is which bit of the address a turn is about
         for depth in 0..length {
             let bit = bit_after(address, depth);
-            let Some(child) = self.tables.nodes[node as usize].children[bit] else {
+            let Some(child) = self.tables.nodes[node as usize].child(bit) else {
                 return path;
             };
             node = child;
