@@ -27,32 +27,31 @@ fn read_taking(kind: &[u8], rest: &[u8]) -> Option<Question> {
     }
 }
 
-// Six numbers.
+// Six numbers. The last word is all that is left, in which no number reads a space.
 fn read_order(text: &[u8]) -> Option<[u8; FIELDS]> {
-    let mut words = text.split(|byte| *byte == b' ');
+    let mut words = text.splitn(FIELDS, |byte| *byte == b' ');
     let mut fields = [0; FIELDS];
     for field in &mut fields {
         *field = read_u8(words.next()?)?;
     }
-    words.next().is_none().then_some(fields)
+    Some(fields)
 }
 
-// Six values, and then six numbers.
+// Six values, and then six numbers, the last as in an order.
 fn read_filter(text: &[u8]) -> Option<[Question; FIELDS]> {
-    let mut words = text.split(|byte| *byte == b' ');
+    let mut words = text.splitn(FIELDS + FIELDS, |byte| *byte == b' ');
     let source = read_prefix(words.next()?)?;
     let destination = read_prefix(words.next()?)?;
     let source_port = read_range(words.next()?)?;
     let destination_port = read_range(words.next()?)?;
     let protocol = read_protocol(words.next()?)?;
     let flags = read_flag_mask(words.next()?)?;
-    let questions = [
+    Some([
         Question::OfPrefix(source, read_address(words.next()?)?),
         Question::OfPrefix(destination, read_address(words.next()?)?),
         Question::OfRange(source_port, read_u16(words.next()?)?),
         Question::OfRange(destination_port, read_u16(words.next()?)?),
         Question::OfProtocol(protocol, read_u8(words.next()?)?),
         Question::OfFlags(flags, read_flags(words.next()?)?),
-    ];
-    words.next().is_none().then_some(questions)
+    ])
 }

@@ -87,7 +87,7 @@ impl<K: Key> LabelTable<K> {
         ensures each { (fs : List (Standing K)) → Labelled K.Key.eq self.now.slots fs → result ≡ different K.Key.eq (λ _. true) (map (λ f. f.key) fs) }
         ensures few { result ≤ 96 }
     {
-        self.slots.iter().filter(|slot| slot.is_some()).count()
+        self.slots.iter().map(|slot| slot.is_some() as usize).sum()
     }
 
     // What the slot of a label holds.
