@@ -39,15 +39,6 @@ nothing_wrong false f g (Some r) found e = absurd (let z : ◌≡◌ {A = ℕ} 0
 nothing_wrong false f g None (Some l) e = absurd (let z : ◌≡◌ {A = ℕ} 0 1 = cc in omega arith)
 nothing_wrong false f g None None e = (refl, refl, refl)
 
-refused_early : (b : Bool) (f g : Fault) (held : Option Prefix) (found : Option ℕ) (e : Fault) → first_fault (cond b (Some f) None ∷ when (full held) g ∷ elsewhere None ∷ []) ≡ Some e → first_fault (cond b (Some f) None ∷ when (full held) g ∷ elsewhere found ∷ []) ≡ Some e
-refused_early true f g held found e h = h
-refused_early false f g (Some r) found e h = h
-refused_early false f g None found e h = absurd (let z : ◌≡◌ {A = ℕ} 0 1 = cc in omega arith)
-
--- what is refused for its place is refused wherever its value is
-pub place_refused : (l : ℕ) (held : Option Prefix) (found : Option ℕ) (e : Fault) → set_refusal l [] held None ≡ Some e → set_refusal l [] held found ≡ Some e
-place_refused l held found e h = refused_early (ltb 95 l) (Label l) (Full l) held found e h
-
 pub settable : (l : ℕ) (held read : Option Prefix) (found : Option ℕ) → read ≡ held → ◌≡◌ {A = Result (Unit {0}) Fault} (Ok tt) (answer (set_refusal l [] read found) tt) → (l < 96) × (held ≡ None) × (found ≡ None) × (set_refusal l [] held found ≡ None)
 settable l held read found same e =
     let f = unfaulted {A = Unit {0}} (set_refusal l [] held found) tt tt (e ∙ ap (λ (o : Option Prefix). answer (set_refusal l [] o found) tt) same) in

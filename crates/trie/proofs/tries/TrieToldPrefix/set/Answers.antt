@@ -5,7 +5,8 @@ use Rattle.fields.specs.Faults.{answer, unless}
 use Rattle.parts.specs.Meaning.{Meaning, find, set_fault, put}
 use Rattle.parts.specs.Checks.{set_refusal}
 use Rattle.trie.specs.Shown.{Shown}
-use Rattle.trie.proofs.Placed.{equal, no_labels, refused, settable, place_refused, same_refusal}
+use Rattle.engines.proofs.Meanings.{refused_unfound}
+use Rattle.trie.proofs.Placed.{equal, no_labels, refused, settable, same_refusal}
 use Rattle.trie.proofs.tries.TrieToldPrefix.set.Goals as goal
 
 pub returns-in_err-check_set : goal.returns-in_err-check_set
@@ -16,7 +17,7 @@ returns-in_err-check_set c =
     let e = c.in_err-check_set.field-0.0 in
     let is : c.from_residual.result ≡ Err e = search rules in
     let checked : Err e ≡ answer (set_refusal p [] (get_or places p None) None) tt = sym c.in_err-check_set.was ∙ c.check_set.ensures ∙ ap (λ (o : Option Prefix). answer (set_refusal p [] o None) tt) c.held.ensures in
-    let fault : (m : Meaning Prefix) → Shown places c.args.self.now.asked m → set_fault equal no_labels m.places p v ≡ Some e = λ m s. ap (λ (xs : List (Option Prefix)). set_fault equal no_labels xs p v) (sym s.held) ∙ place_refused p (get_or places p None) (find equal places v) e (refused (set_refusal p [] (get_or places p None) None) tt e checked) in
+    let fault : (m : Meaning Prefix) → Shown places c.args.self.now.asked m → set_fault equal no_labels m.places p v ≡ Some e = λ m s. ap (λ (xs : List (Option Prefix)). set_fault equal no_labels xs p v) (sym s.held) ∙ refused (set_refusal p [] (get_or places p None) (find equal places v)) tt e (sym (refused_unfound p (get_or places p None) (find equal places v) tt e (sym checked))) in
     record {
       result = λ m s. is ∙ sym (ap (λ (f : Option Fault). answer f tt) (fault m s));
       held = λ m s. subst (λ (f : Option Fault). Shown places c.args.self.now.asked (unless f m (put m p (Some v)))) (sym (fault m s)) s;
